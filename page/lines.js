@@ -90,6 +90,11 @@ export function stoppedIn(lines) {
   return behind(lines, 'clocks stopped ');
 }
 
+/** Whether a message has the line that tells that there is no room for the lobby's log. */
+export function isFullIn(lines) {
+  return lines.includes('log full');
+}
+
 /** What the arbiter announces, by the line `announced TEXT` of a message; empty where it has none. */
 export function announcedIn(lines) {
   return behind(lines, 'announced ');

@@ -60,10 +60,11 @@ class Page {
     const told = {
       opened: (server) => this.opened(server), notice: (lines) => this.notice(lines), clocks: clocksTold,
       announced: announcedTold, decided: decidedTold, offers: () => this.challenges.look(),
-      changed: () => this.changed(),
+      log: (isFull) => { byId('log-full').hidden = !isFull; }, changed: () => this.changed(),
       unnamed: () => this.who.unnamed(),
       served: (isServed) => { byId('no-broadcast').hidden = isServed; },
     };
+    told.log(false);
     return this.who.mayConnect() ? new Wire(told) : new Broadcast(told);
   }
 

@@ -1,7 +1,7 @@
 // The connection to the lobby, for who has a personal link: one WebSocket, answers in the order of what was sent, and
 // notices between them. Where it breaks it comes back by itself, with growing pauses.
 
-import { announcedIn, linesOf, stoppedIn } from './lines.js';
+import { announcedIn, isFullIn, linesOf, stoppedIn } from './lines.js';
 
 const PAUSES = [400, 1000, 2000, 4000, 8000, 15000];
 const MOST_A_SECOND = 15;            // the lobby takes 20
@@ -44,10 +44,10 @@ function socketAddress() {
 }
 
 export class Wire {
-  /** told: {opened, notice(lines), clocks(reason), announced(text), decided(line), offers, changed, unnamed}; changed() is called
-   * whenever `state` is another, clocks() where all clocks are stopped, with why, or run again, announced() where the
-   * arbiter announces something, or nothing any more, and unnamed() where an answer says that the connection acts for
-   * nobody. */
+  /** told: {opened, notice(lines), clocks(reason), announced(text), log(isFull), decided(line), offers, changed, unnamed};
+   * changed() is called whenever `state` is another, clocks() where all clocks are stopped, with why, or run again,
+   * announced() where the arbiter announces something, or nothing any more, log() with whether there is no room for the
+   * lobby's log, and unnamed() where an answer says that the connection acts for nobody. */
   constructor(told) {
     this.told = told;
     this.state = { open: false, server: '', retryAt: 0, ever: false };
@@ -124,12 +124,15 @@ export class Wire {
       if (!this.state.open) {
         this.told.clocks(stoppedIn(lines));
         this.told.announced(announcedIn(lines));
+        this.told.log(isFullIn(lines));
       }
       this.serverTold(lines[0].split(' ')[1]);
     } else if (word === 'clocks') {
       this.told.clocks(stoppedIn(lines));
     } else if (word === 'announced') {
       this.told.announced(announcedIn(lines));
+    } else if (word === 'log') {
+      this.told.log(isFullIn(lines));
     } else if (word === 'decided') {
       this.told.decided(lines[0]);
     } else if (word === 'told') {

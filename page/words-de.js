@@ -415,8 +415,10 @@ export const WORDS = {
     'Die Lobby hat im Moment keine Verbindung zum Spielserver. Nichts ist geschehen; versuche es bald noch einmal.',
   'This page watches sixteen games already.': 'Diese Seite verfolgt schon sechzehn Partien.',
   'No player of this name is known here.': 'Einen Spieler dieses Namens kennt hier niemand.',
-  'An arbiter has stopped new games for the moment. Games that were begun go on.':
-    'Ein Schiedsrichter hat neue Partien für den Moment gesperrt. Begonnene gehen weiter.',
+  ['New games are stopped for the moment, by an arbiter or for want of room on the disk. Games that were begun go '
+    + 'on.']:
+    'Neue Partien sind für den Moment gesperrt, von einem Schiedsrichter oder weil auf der Platte kein Platz ist. '
+    + 'Begonnene gehen weiter.',
   ['The lobby could not change the file of the players, or another writes it at the moment. Try again; if that does '
     + 'not help, tell who runs the lobby.']:
     'Die Lobby konnte die Datei der Spieler nicht ändern, oder jemand anders schreibt sie gerade. Versuche es noch '
@@ -966,4 +968,7 @@ export const WORDS = {
   '{0} has come after the default time, {1} min': '{0} ist nach der Wartezeit gekommen, {1} min',
   'Neither player has come within the default time, {0} min':
     'Keiner der beiden ist in der Wartezeit gekommen, {0} min',
+  'The disk has no room for the lobby’s log: no new game begins until it has. Games that were begun go on.':
+    'Auf der Platte ist kein Platz für das Protokoll der Lobby: bis wieder welcher da ist, beginnt keine neue '
+    + 'Partie. Begonnene gehen weiter.',
 };

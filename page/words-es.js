@@ -411,8 +411,10 @@ export const WORDS = {
     + 'vez.',
   'This page watches sixteen games already.': 'Esta página sigue ya dieciséis partidas.',
   'No player of this name is known here.': 'Aquí no se conoce a ningún jugador con ese nombre.',
-  'An arbiter has stopped new games for the moment. Games that were begun go on.':
-    'Un árbitro ha suspendido por ahora las partidas nuevas. Las comenzadas siguen.',
+  ['New games are stopped for the moment, by an arbiter or for want of room on the disk. Games that were begun go '
+    + 'on.']:
+    'Las partidas nuevas están suspendidas por ahora, por un árbitro o por falta de sitio en el disco. Las '
+    + 'comenzadas siguen.',
   ['The lobby could not change the file of the players, or another writes it at the moment. Try again; if that does '
     + 'not help, tell who runs the lobby.']:
     'El lobby no ha podido modificar el archivo de jugadores, u otro lo está escribiendo ahora. Inténtalo de nuevo; '
@@ -958,4 +960,7 @@ export const WORDS = {
   '{0} has come after the default time, {1} min': '{0}: llegaron después del tiempo de espera, {1} min',
   'Neither player has come within the default time, {0} min':
     'Ninguno de los dos se presentó en el tiempo de espera, {0} min',
+  'The disk has no room for the lobby’s log: no new game begins until it has. Games that were begun go on.':
+    'No hay sitio en el disco para el registro del lobby: hasta que lo haya no empieza ninguna partida nueva. Las '
+    + 'comenzadas siguen.',
 };

@@ -418,8 +418,10 @@ export const WORDS = {
     'Le lobby n’a pas de connexion au serveur de jeu en ce moment. Rien n’a été fait ; réessayez bientôt.',
   'This page watches sixteen games already.': 'Cette page suit déjà seize parties.',
   'No player of this name is known here.': 'Aucun joueur de ce nom n’est connu ici.',
-  'An arbiter has stopped new games for the moment. Games that were begun go on.':
-    'Un arbitre a bloqué les nouvelles parties pour le moment. Celles qui ont commencé continuent.',
+  ['New games are stopped for the moment, by an arbiter or for want of room on the disk. Games that were begun go '
+    + 'on.']:
+    'Les nouvelles parties sont bloquées pour le moment, par un arbitre ou faute de place sur le disque. Celles qui '
+    + 'ont commencé continuent.',
   ['The lobby could not change the file of the players, or another writes it at the moment. Try again; if that does '
     + 'not help, tell who runs the lobby.']:
     'Le lobby n’a pas pu modifier le fichier des joueurs, ou quelqu’un d’autre y écrit en ce moment. Réessayez ; si '
@@ -972,4 +974,7 @@ export const WORDS = {
   '{0} has come after the default time, {1} min': '{0} : arrivée après le délai d’attente, {1} min',
   'Neither player has come within the default time, {0} min':
     'Aucun des deux n’est venu dans le délai d’attente, {0} min',
+  'The disk has no room for the lobby’s log: no new game begins until it has. Games that were begun go on.':
+    'Le disque n’a pas de place pour le journal du lobby : aucune nouvelle partie ne commence d’ici là. Celles qui '
+    + 'ont commencé continuent.',
 };

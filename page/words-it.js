@@ -414,8 +414,10 @@ export const WORDS = {
     'Al momento la lobby non ha connessione al server di gioco. Non è stato fatto nulla; riprova presto.',
   'This page watches sixteen games already.': 'Questa pagina segue già sedici partite.',
   'No player of this name is known here.': 'Qui non è conosciuto nessun giocatore con questo nome.',
-  'An arbiter has stopped new games for the moment. Games that were begun go on.':
-    'Per il momento un arbitro ha bloccato le nuove partite. Quelle cominciate continuano.',
+  ['New games are stopped for the moment, by an arbiter or for want of room on the disk. Games that were begun go '
+    + 'on.']:
+    'Per il momento le nuove partite sono bloccate, da un arbitro o perché sul disco non c’è posto. Quelle '
+    + 'cominciate continuano.',
   ['The lobby could not change the file of the players, or another writes it at the moment. Try again; if that does '
     + 'not help, tell who runs the lobby.']:
     'La lobby non ha potuto modificare il file dei giocatori, o qualcun altro lo sta scrivendo. Riprova; se non '
@@ -963,4 +965,7 @@ export const WORDS = {
   '{0} has not come within the default time, {1} min': 'Il {0} non è venuto nel tempo di attesa, {1} min',
   '{0} has come after the default time, {1} min': 'Il {0} è venuto dopo il tempo di attesa, {1} min',
   'Neither player has come within the default time, {0} min': 'Nessuno dei due è venuto nel tempo di attesa, {0} min',
+  'The disk has no room for the lobby’s log: no new game begins until it has. Games that were begun go on.':
+    'Sul disco non c’è posto per il registro della lobby: finché non ce n’è, non comincia nessuna nuova partita. '
+    + 'Quelle cominciate continuano.',
 };

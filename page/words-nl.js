@@ -413,8 +413,10 @@ export const WORDS = {
     'De lobby heeft op dit moment geen verbinding met de spelserver. Er is niets gedaan; probeer het straks opnieuw.',
   'This page watches sixteen games already.': 'Deze pagina volgt al zestien partijen.',
   'No player of this name is known here.': 'Een speler met deze naam is hier niet bekend.',
-  'An arbiter has stopped new games for the moment. Games that were begun go on.':
-    'Een arbiter heeft nieuwe partijen voorlopig stopgezet. Begonnen partijen gaan door.',
+  ['New games are stopped for the moment, by an arbiter or for want of room on the disk. Games that were begun go '
+    + 'on.']:
+    'Nieuwe partijen zijn voorlopig stopgezet, door een arbiter of omdat er op de schijf geen ruimte is. Begonnen '
+    + 'partijen gaan door.',
   ['The lobby could not change the file of the players, or another writes it at the moment. Try again; if that does '
     + 'not help, tell who runs the lobby.']:
     'De lobby kon het spelersbestand niet wijzigen, of iemand anders schrijft er nu in. Probeer het opnieuw; als dat '
@@ -963,4 +965,7 @@ export const WORDS = {
   '{0} has not come within the default time, {1} min': '{0} is niet binnen de wachttijd gekomen, {1} min',
   '{0} has come after the default time, {1} min': '{0} is na de wachttijd gekomen, {1} min',
   'Neither player has come within the default time, {0} min': 'Geen van beiden is binnen de wachttijd gekomen, {0} min',
+  'The disk has no room for the lobby’s log: no new game begins until it has. Games that were begun go on.':
+    'Er is op de schijf geen ruimte voor het logboek van de lobby: tot die er is, begint er geen nieuwe partij. '
+    + 'Begonnen partijen gaan door.',
 };

@@ -411,8 +411,9 @@ export const WORDS = {
     'Lobby nie ma w tej chwili połączenia z serwerem gry. Niczego nie zrobiono; spróbuj niedługo ponownie.',
   'This page watches sixteen games already.': 'Ta strona śledzi już szesnaście partii.',
   'No player of this name is known here.': 'Gracz o tej nazwie nie jest tu znany.',
-  'An arbiter has stopped new games for the moment. Games that were begun go on.':
-    'Sędzia wstrzymał na razie nowe partie. Rozpoczęte trwają dalej.',
+  ['New games are stopped for the moment, by an arbiter or for want of room on the disk. Games that were begun go '
+    + 'on.']:
+    'Nowe partie są na razie wstrzymane, przez sędziego albo z braku miejsca na dysku. Rozpoczęte trwają dalej.',
   ['The lobby could not change the file of the players, or another writes it at the moment. Try again; if that does '
     + 'not help, tell who runs the lobby.']:
     'Lobby nie mogło zmienić pliku graczy albo ktoś inny właśnie go zapisuje. Spróbuj ponownie; jeśli to nie pomoże, '
@@ -953,4 +954,7 @@ export const WORDS = {
   '{0} has come after the default time, {1} min': '{0}: przyjście po czasie oczekiwania, {1} min',
   'Neither player has come within the default time, {0} min':
     'Nikt z obojga nie przyszedł w czasie oczekiwania, {0} min',
+  'The disk has no room for the lobby’s log: no new game begins until it has. Games that were begun go on.':
+    'Na dysku nie ma miejsca na dziennik lobby: dopóki go nie będzie, nie zacznie się żadna nowa partia. Rozpoczęte '
+    + 'trwają dalej.',
 };

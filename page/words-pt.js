@@ -408,8 +408,10 @@ export const WORDS = {
     'O lobby está sem conexão com o servidor de jogo no momento. Nada foi feito; tente de novo em breve.',
   'This page watches sixteen games already.': 'Esta página já acompanha dezesseis partidas.',
   'No player of this name is known here.': 'Nenhum jogador com esse nome é conhecido aqui.',
-  'An arbiter has stopped new games for the moment. Games that were begun go on.':
-    'Um árbitro suspendeu por enquanto as novas partidas. As já começadas continuam.',
+  ['New games are stopped for the moment, by an arbiter or for want of room on the disk. Games that were begun go '
+    + 'on.']:
+    'As novas partidas estão suspensas por enquanto, por um árbitro ou por falta de espaço no disco. As já '
+    + 'começadas continuam.',
   ['The lobby could not change the file of the players, or another writes it at the moment. Try again; if that does '
     + 'not help, tell who runs the lobby.']:
     'O lobby não conseguiu alterar o arquivo de jogadores, ou outra pessoa o está escrevendo agora. Tente de novo; '
@@ -950,4 +952,7 @@ export const WORDS = {
   '{0} has not come within the default time, {1} min': '{0}: não chegaram no tempo de tolerância, {1} min',
   '{0} has come after the default time, {1} min': '{0}: chegaram depois do tempo de tolerância, {1} min',
   'Neither player has come within the default time, {0} min': 'Nenhum dos dois chegou no tempo de tolerância, {0} min',
+  'The disk has no room for the lobby’s log: no new game begins until it has. Games that were begun go on.':
+    'Não há espaço no disco para o registro do lobby: até haver, nenhuma partida nova começa. As já começadas '
+    + 'continuam.',
 };

@@ -37,7 +37,8 @@ const REFUSALS = {
   36: t`The lobby has no connection to the game server at the moment. Nothing was done; try again soon.`,
   37: t`This page watches sixteen games already.`,
   38: t`No player of this name is known here.`,
-  39: t`An arbiter has stopped new games for the moment. Games that were begun go on.`,
+  39: t`New games are stopped for the moment, by an arbiter or for want of room on the disk. Games that were begun
+    go on.`,
   40: t`The lobby could not change the file of the players, or another writes it at the moment. Try again; if that
     does not
     help, tell who runs the lobby.`,

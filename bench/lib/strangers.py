@@ -120,6 +120,13 @@ class Stranger:
             with contextlib.suppress(asyncio.TimeoutError):
                 await asyncio.wait_for(self.listen(), 0.9)
 
+    async def unpairs(self):
+        """Takes back what is not offered, as fast as it is told anything: each time all at the table are told."""
+        await self.open_socket()
+        await self.say('lobby')
+        while True:
+            await self.say('unpair p0')
+
     async def pings(self):
         """Pings, as many as the socket takes."""
         await self.open_socket()

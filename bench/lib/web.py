@@ -104,7 +104,7 @@ class Line:
 
 
 # How a message begins that is no answer, of one who is not told of the table.
-NOTICES = ('told ', 'server ', 'clocks ', 'decided ')
+NOTICES = ('told ', 'server ', 'clocks ', 'decided ', 'log ')
 
 
 class Guest(Line):

@@ -22,7 +22,7 @@ use Rattle.lobby_words.specs.Words.{rest_of, as_name, pair_line, sort_of, is_rea
 use Rattle.lobby_words.specs.declared.words.Sort.TheVariants as sorts
 use Rattle.lobby_words.specs.Naming.{takes_name}
 use Rattle.lobby_words.specs.Answers.{ended, answer}
-use Rattle.lobby_desk.specs.Events.{DeskInput, Opened, Closed, Said, Hurried, Heard, ServerTurned, Renewed, Linked}
+use Rattle.lobby_desk.specs.Events.{DeskInput, Opened, Closed, Said, Hurried, Heard, ServerTurned, Renewed, Linked, Found}
 use Rattle.lobby_table.specs.Owed.{ForItself, ForPositions, ForTable, ForGame, ForAct, Owed, Nobody, Naming, Asker}
 use Rattle.lobby_table.specs.Owed.{Dropper, Pairer, Followers, Behind}
 use Rattle.lobby_desk.specs.Tellings.{Known, is_counted}
@@ -164,6 +164,7 @@ shown_then players past (Heard line) is =
 shown_then players past (Renewed later) is = is
 shown_then players past (Linked c text later token) is = is
 shown_then players past (ServerTurned is_here) is = refl
+shown_then players past (Found finding) is = is
 
 all_shown : (players : List Player) (steps : List Step) → shown_in players steps ≡ shown_over None (told_in players steps)
 all_shown players [] = refl
@@ -219,6 +220,7 @@ event_entered (Heard line) k sent shown told is h = heard_entered (is_counted k 
 event_entered (Renewed later) k sent shown told is h = tt
 event_entered (Linked c text later token) k sent shown told is h = tt
 event_entered (ServerTurned is_here) k sent shown told is h = tt
+event_entered (Found finding) k sent shown told is h = tt
 
 all_entered : (players : List Player) (steps : List Step) → AllNamed players steps → AllEntered players steps
 all_entered players [] h = tt

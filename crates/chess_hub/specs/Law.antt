@@ -3,6 +3,7 @@ use Rattle.std.specs.Prelude.{ℕ, ◌≡◌, ◌++◌, true, false, List, [], �
 use Rattle.text_lines.specs.Heard.{heard_more}
 use Rattle.sector_dev.specs.declared.device.Device.{Ghosts}
 use Rattle.chess_entry.specs.State.{TableState}
+use Rattle.chess_store.specs.declared.store.Store.{Store}
 use Rattle.chess_hub.specs.declared.hub.Hub.{Hub}
 use Rattle.chess_hub.specs.declared.sessions.Sessions.{Sessions}
 use Rattle.chess_hub.specs.Session.{Said, SessionState, fresh, session_at, Changes, IsUnchanged, due, first_due}
@@ -20,7 +21,15 @@ pub record HubState : Type 0 where
 abbrev pub state_of : Sessions → TableState → HubState
 state_of sessions table = record { sessions = sessions; table = table }
 
--- that of a hub
+-- the store that a hub keeps
+abbrev pub hub_store : {D : Type 0} {ghosts : Ghosts D} → Hub D ghosts → Store D ghosts
+hub_store hub = hub.store
+
+-- to how many of its turns memory was refused
+abbrev pub hub_refusals : {D : Type 0} {ghosts : Ghosts D} → Hub D ghosts → ℕ
+hub_refusals hub = hub.refusals
+
+-- its sessions, and its store's table
 abbrev pub hub_state : {D : Type 0} {ghosts : Ghosts D} → Hub D ghosts → HubState
 hub_state hub = state_of hub.sessions hub.store.table
 

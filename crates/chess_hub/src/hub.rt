@@ -9,6 +9,7 @@ ghost use Rattle.chess_hub.specs.Session.{said, fresh, session_at, session_count
 ghost use Rattle.chess_hub.specs.Session.{given_one};
 ghost use Rattle.chess_store.specs.Batch.{AreAnswered};
 ghost use Rattle.chess_hub.specs.Faults.{IsConnectFault, IsFeedFault, refusals_after};
+ghost use Rattle.chess_hub.specs.Law.{hub_state};
 ghost use Rattle.chess_hub.specs.Storing.{StoreMayBeAsked, StoreRefuses, StoreLasts, StoreTried};
 ghost use Rattle.chess_hub.specs.Turning.{HasTurned, AsksFor, IsTurnFault};
 
@@ -174,7 +175,7 @@ impl<D: Device> Hub<D> {
         requires some { 1 ≤ most }
         requires few { most ≤ 64 }
         ensures turned { OnOk result (HasTurned at most self.old.sessions self.new.sessions
-            self.old.store.table self.new.store.table) }
+            (hub_state self.old).table (hub_state self.new).table) }
         ensures quiet { OnOk result (AsksFor at most self.old.sessions
             (λ commands. commands ≡ [] → self.new.store ≡ self.old.store)) }
         ensures works { OnOk result (AsksFor at most self.old.sessions (StoreMayBeAsked self.old.store)) }

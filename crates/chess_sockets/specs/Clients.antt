@@ -13,6 +13,10 @@ use Rattle.chess_sockets.specs.Protocols.{AreOfAnotherProtocol}
 use Rattle.chess_sockets.specs.Incoming.{held}
 use Rattle.chess_sockets.specs.Sending.{waiting, HandsOn}
 
+-- the connection of a client
+abbrev pub stream_of : {S : Type 0} → Client S → S
+stream_of client = client.wire.stream
+
 -- the moment at which something came last, after a read at a moment that brought these bytes
 abbrev pub heard_since : List ℕ → ℕ → ℕ → ℕ
 heard_since [] at before = before

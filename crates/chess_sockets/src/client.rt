@@ -2,9 +2,10 @@
 ghost use Rattle.std.specs.Prelude.{◌≡◌, ◌≢◌, ◌≤◌, ◌++◌, ◌+◌, ◌-◌, ◌↔◌, ◌⊎◌, true, false, [], Some, None, IsTrue};
 ghost use Rattle.std.specs.Prelude.{IfSome, IfOk, OnOk, OnErr};
 ghost use Rattle.std.specs.Io.KnownBytes.{Keeps};
+ghost use Rattle.chess_hub.specs.Law.{hub_store, hub_refusals};
 ghost use Rattle.chess_hub.specs.Session.{said, session_at, due, Changes};
-ghost use Rattle.chess_sockets.specs.Clients.{standing, IsOpen, OthersStay, IsSilent, IsHeardAt, IsEndSeen, GivesOn};
-ghost use Rattle.chess_sockets.specs.Clients.{TakesIn, HandsOut, bytes_of, to_go, ahead, pending};
+ghost use Rattle.chess_sockets.specs.Clients.{standing, stream_of, IsOpen, OthersStay, IsSilent, IsHeardAt, IsEndSeen};
+ghost use Rattle.chess_sockets.specs.Clients.{GivesOn, TakesIn, HandsOut, bytes_of, to_go, ahead, pending};
 ghost use Rattle.chess_sockets.specs.Closings.{IsSound, IsForeign, IsTrouble, WasRefused};
 ghost use Rattle.text_lines.specs.Lines.{IsUnfinished};
 ghost use Rattle.chess_sockets.specs.Incoming.{held};
@@ -59,7 +60,7 @@ impl<S> Client<S> {
     /// A connection that begins, for a session that is open.
     pub fn new(alloc: Global, stream: S, sid: Sid, at: u64) -> Client<S>
         ensures sid { result.sid ≡ sid }
-        ensures stream { result.wire.stream ≡ stream }
+        ensures stream { stream_of result ≡ stream }
         ensures sound { IsSound result }
         ensures heard { result.heard_at ≡ at }
         ensures wait { result.waited ≡ 0 }
@@ -85,7 +86,7 @@ impl<S> Client<S> {
 
     /// The connection.
     pub fn stream(&self) -> &S
-        ensures { result.now ≡ self.now.wire.stream }
+        ensures { result.now ≡ stream_of self.now }
     {
         self.wire.stream()
     }
@@ -134,8 +135,8 @@ impl<S> Client<S> {
             × (self.new.is_quiet ≡ self.old.is_quiet) × (held self.new.incoming ≡ held self.old.incoming)
             × (waiting self.new.outgoing ≡ waiting self.old.outgoing) × (self.new.wire.stream ≡ self.old.wire.stream)
             × (self.new.heard_at ≡ self.old.heard_at) × (standing self.new ≡ standing self.old) }
-        ensures store { hub.new.store ≡ hub.old.store }
-        ensures refusals { hub.new.refusals ≡ hub.old.refusals }
+        ensures store { hub_store hub.new ≡ hub_store hub.old }
+        ensures refusals { hub_refusals hub.new ≡ hub_refusals hub.old }
     {
         hub.close(self.sid);
         self.closing = Some(closing);
@@ -189,8 +190,8 @@ fn gather<D: Device>(
     ensures given { AreGiven sid hub.old.sessions hub.new.sessions }
     ensures refused { OnErr result (outgoing.new.was_refused ≡ true) }
     ensures others { OthersStay hub.old.sessions hub.new.sessions sid }
-    ensures store { hub.new.store ≡ hub.old.store }
-    ensures refusals { hub.new.refusals ≡ hub.old.refusals }
+    ensures store { hub_store hub.new ≡ hub_store hub.old }
+    ensures refusals { hub_refusals hub.new ≡ hub_refusals hub.old }
 {
     let mut any = false;
     for _ in 0..u32::MAX {
@@ -287,8 +288,8 @@ impl<S: Read + Write> Client<S> {
             → (room.new.lines ≡ room.old.lines) ⊎ WasRefused self.new }
         ensures foreign { IsForeign self.old → session_at hub.new.sessions self.old.sid ≡ None }
         ensures others { OthersStay hub.old.sessions hub.new.sessions self.old.sid }
-        ensures store { hub.new.store ≡ hub.old.store }
-        ensures refusals { hub.new.refusals ≡ hub.old.refusals }
+        ensures store { hub_store hub.new ≡ hub_store hub.old }
+        ensures refusals { hub_refusals hub.new ≡ hub_refusals hub.old }
     {
         if self.is_foreign() {
             self.close(hub, Closing::OtherProtocol);
@@ -350,8 +351,8 @@ impl<S: Read + Write> Client<S> {
         ensures refused { session_at hub.new.sessions self.old.sid ≡ None
             → (room.new.lines ≡ room.old.lines) ⊎ WasRefused self.new }
         ensures others { OthersStay hub.old.sessions hub.new.sessions self.old.sid }
-        ensures store { hub.new.store ≡ hub.old.store }
-        ensures refusals { hub.new.refusals ≡ hub.old.refusals }
+        ensures store { hub_store hub.new ≡ hub_store hub.old }
+        ensures refusals { hub_refusals hub.new ≡ hub_refusals hub.old }
     {
         self.is_quiet = false;
         if !self.outgoing.is_empty() {
@@ -390,8 +391,8 @@ impl<S: Read + Write> Client<S> {
             × (self.new.is_quiet ≡ self.old.is_quiet) × (held self.new.incoming ≡ held self.old.incoming)
             × (self.new.heard_at ≡ self.old.heard_at) × (standing self.new ≡ standing self.old) }
         ensures others { OthersStay hub.old.sessions hub.new.sessions self.old.sid }
-        ensures store { hub.new.store ≡ hub.old.store }
-        ensures refusals { hub.new.refusals ≡ hub.old.refusals }
+        ensures store { hub_store hub.new ≡ hub_store hub.old }
+        ensures refusals { hub_refusals hub.new ≡ hub_refusals hub.old }
     {
         let sent = self.outgoing.write_to(&mut self.wire);
         if sent != Sent::All {
@@ -471,8 +472,8 @@ impl<S: Read + Write> Client<S> {
             × (self.new.is_quiet ≡ self.old.is_quiet) × (held self.new.incoming ≡ held self.old.incoming)
             × (self.new.heard_at ≡ self.old.heard_at) × (standing self.new ≡ standing self.old) }
         ensures others { OthersStay hub.old.sessions hub.new.sessions self.old.sid }
-        ensures store { hub.new.store ≡ hub.old.store }
-        ensures refusals { hub.new.refusals ≡ hub.old.refusals }
+        ensures store { hub_store hub.new ≡ hub_store hub.old }
+        ensures refusals { hub_refusals hub.new ≡ hub_refusals hub.old }
     {
         let was_stuck = !self.outgoing.is_empty();
         let Ok(wrote) = self.write_out(hub) else {

@@ -1,6 +1,7 @@
 //! Whether memory was refused for what a client sends.
 ghost use Rattle.std.specs.Prelude.{◌≡◌, ◌≤◌, [], true, false, None, length, IfSome, IsSomeAnd};
 ghost use Rattle.std.specs.Bool.{OnTrue, OnFalse};
+ghost use Rattle.chess_hub.specs.Law.{hub_store, hub_refusals};
 ghost use Rattle.chess_hub.specs.Session.{session_at};
 ghost use Rattle.chess_sockets.specs.Clients.{IsOpen, OthersStay, HasHeard};
 ghost use Rattle.chess_sockets.specs.Portions.{IsPortion};
@@ -35,8 +36,8 @@ impl Memory {
         ensures refused { OnFalse result (self.new.was_refused ≡ true) }
         ensures sound { OnTrue result (self.new.was_refused ≡ self.old.was_refused) }
         ensures others { OthersStay hub.old.sessions hub.new.sessions sid }
-        ensures store { hub.new.store ≡ hub.old.store }
-        ensures refusals { hub.new.refusals ≡ hub.old.refusals }
+        ensures store { hub_store hub.new ≡ hub_store hub.old }
+        ensures refusals { hub_refusals hub.new ≡ hub_refusals hub.old }
     {
         match hub.feed(sid, portion) {
             Ok(()) | Err(HubFault::LineTooLong) => true,

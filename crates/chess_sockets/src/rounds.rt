@@ -1,6 +1,7 @@
 //! What a turn of a server does for all its clients, one after the other.
 ghost use Rattle.std.specs.Prelude.{◌≡◌, ◌≤◌, ◌<◌, ◌↔◌, ◌⊎◌, true, Some, None, IsTrue, IsSomeAnd, length};
 ghost use Rattle.std.specs.Bool.{OnTrue, OnFalse};
+ghost use Rattle.chess_hub.specs.Law.{hub_store, hub_refusals};
 ghost use Rattle.chess_hub.specs.Session.{Changes, IsUnchanged};
 ghost use Rattle.text_lines.specs.Lines.{IsUnfinished};
 ghost use Rattle.chess_sockets.specs.Clients.{standing, IsOpen, IsSilent, IsLongest};
@@ -52,8 +53,8 @@ fn close_silent<S, D: Device>(client: &mut Client<S>, hub: &mut Hub<D>, reading:
         × (client.new.wire.stream ≡ client.old.wire.stream)
         × (client.new.heard_at ≡ client.old.heard_at) × (client.new.has_ended ≡ client.old.has_ended)
         × (standing client.new ≡ standing client.old) }
-    ensures store { hub.new.store ≡ hub.old.store }
-    ensures refusals { hub.new.refusals ≡ hub.old.refusals }
+    ensures store { hub_store hub.new ≡ hub_store hub.old }
+    ensures refusals { hub_refusals hub.new ≡ hub_refusals hub.old }
 {
     if !is_over_silent(client, hub, reading) {
         return false;
@@ -86,8 +87,8 @@ fn read_for<S: Read + Write, D: Device>(
     ensures read { IsRead S.remaining (times reading.at reading.silence) room.old.longest client.old client.new
         (intake hub.old.sessions room.old.lines) (intake hub.new.sessions room.new.lines) }
     ensures longest { room.new.longest ≡ room.old.longest }
-    ensures store { hub.new.store ≡ hub.old.store }
-    ensures refusals { hub.new.refusals ≡ hub.old.refusals }
+    ensures store { hub_store hub.new ≡ hub_store hub.old }
+    ensures refusals { hub_refusals hub.new ≡ hub_refusals hub.old }
 {
     if !hub.is_open(client.sid()) {
         return false;
@@ -140,8 +141,8 @@ pub fn take_in_all<S: Read + Write, D: Device>(
     ensures all { length clients.new.items ≡ length clients.old.items }
     // Where there are no clients there is nothing to do.
     ensures more { result ≡ true → 0 < length clients.old.items }
-    ensures store { hub.new.store ≡ hub.old.store }
-    ensures refusals { hub.new.refusals ≡ hub.old.refusals }
+    ensures store { hub_store hub.new ≡ hub_store hub.old }
+    ensures refusals { hub_refusals hub.new ≡ hub_refusals hub.old }
 {
     let mut piece = [0u8; PIECE_ROOM];
     let mut room = Room::new(longest_wait(clients, hub));
@@ -155,8 +156,8 @@ pub fn take_in_all<S: Read + Write, D: Device>(
 // Writes for a session that is open, and tells whether there was anything to do.
 fn write_for<S: Read + Write, D: Device>(client: &mut Client<S>, hub: &mut Hub<D>) -> bool
     ensures written { IsWritten S.contents client.old client.new hub.old.sessions hub.new.sessions }
-    ensures store { hub.new.store ≡ hub.old.store }
-    ensures refusals { hub.new.refusals ≡ hub.old.refusals }
+    ensures store { hub_store hub.new ≡ hub_store hub.old }
+    ensures refusals { hub_refusals hub.new ≡ hub_refusals hub.old }
 {
     if !hub.is_open(client.sid()) {
         return false;
@@ -172,8 +173,8 @@ pub fn hand_out_all<S: Read + Write, D: Device>(
 ) -> bool
     ensures written { AreWritten S.contents clients.old.items clients.new.items hub.old.sessions hub.new.sessions }
     ensures more { result ≡ true → 0 < length clients.old.items }
-    ensures store { hub.new.store ≡ hub.old.store }
-    ensures refusals { hub.new.refusals ≡ hub.old.refusals }
+    ensures store { hub_store hub.new ≡ hub_store hub.old }
+    ensures refusals { hub_refusals hub.new ≡ hub_refusals hub.old }
 {
     let mut any = false;
     for client in clients.iter_mut() {

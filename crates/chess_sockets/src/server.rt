@@ -3,12 +3,13 @@ ghost use Rattle.std.specs.Prelude.{◌≡◌, ◌<◌, ◌+◌, ◌↔◌, ◌�
 ghost use Rattle.std.specs.Prelude.{IfErr, OnOk, length};
 ghost use Rattle.std.specs.Bool.{OnTrue, OnFalse};
 ghost use Rattle.chess_hub.specs.Faults.{refusals_after};
-ghost use Rattle.chess_hub.specs.Law.{hub_state};
+ghost use Rattle.chess_hub.specs.Law.{hub_state, hub_store, hub_refusals};
 ghost use Rattle.chess_hub.specs.Storing.{StoreMayBeAsked, StoreRefuses, StoreLasts, StoreTried, StoreCounts};
 ghost use Rattle.chess_sockets.specs.Rounds.{times};
 ghost use Rattle.chess_sockets.specs.Serving.{Welcomes, IsWelcomed, IsAskedFor, HasServed, HasGoneRound, open_in};
 ghost use Rattle.chess_sockets.specs.Serving.{served, state_of_server};
 ghost use Rattle.chess_sockets.specs.Turns.{EndsServing, IsRefusal, IsTurnRefusal};
+ghost use Rattle.sockets.specs.Watches.{calm_waits, is_blind};
 
 use crate::fault::ServerFault;
 use crate::{Client, Reading, hand_out_all, take_in_all};
@@ -90,10 +91,10 @@ fn admit<S: Read + Write + From<Connection> + Drop, D: Device>(
 ) -> bool
     ensures welcomes { Welcomes S.from_gives at clients.old.items clients.new.items (hub_state hub.old)
         (hub_state hub.new) }
-    ensures store { hub.new.store ≡ hub.old.store }
-    ensures refusals { hub.new.refusals ≡ hub.old.refusals }
-    ensures waits { watch.new.calm_waits ≡ watch.old.calm_waits }
-    ensures blind { watch.old.is_blind ≡ true → watch.new.is_blind ≡ true }
+    ensures store { hub_store hub.new ≡ hub_store hub.old }
+    ensures refusals { hub_refusals hub.new ≡ hub_refusals hub.old }
+    ensures waits { calm_waits watch.new ≡ calm_waits watch.old }
+    ensures blind { is_blind watch.old ≡ true → is_blind watch.new ≡ true }
     ensures came { OnTrue result (length clients.new.items ≡ length clients.old.items + 1) }
     ensures dropped { OnFalse result (clients.new.items ≡ clients.old.items) }
 {
@@ -120,20 +121,20 @@ pub fn serve_clients<S: Read + Write, D: Device>(
 ) -> Result<bool, HubFault>
     ensures fault { IfErr result EndsServing }
     // Want of memory ends serving only where a turn of the hub was refused it.
-    ensures counts { hub.new.refusals ≡ refusals_after result hub.old.refusals }
+    ensures counts { hub_refusals hub.new ≡ refusals_after result (hub_refusals hub.old) }
     ensures refused { IfErr result (λ fault. IsRefusal S.remaining (times reading.at reading.silence)
-        (StoreRefuses hub.old.store hub.new.store) fault (served clients.old.items (hub_state hub.old))
+        (StoreRefuses (hub_store hub.old) (hub_store hub.new)) fault (served clients.old.items (hub_state hub.old))
         (served clients.new.items (hub_state hub.new))) }
     // Where there are no clients there is nothing to do.
     ensures more { IfOk result (λ more. more ≡ true → 0 < length clients.old.items) }
     // Each session hears what its client's stream gave, and nothing else, but for what comes behind a line that is too
     // long; and what it is given goes to that stream, as far as that takes it, unless the session is closed.
     ensures served { OnOk result (HasServed S.remaining S.contents (times reading.at reading.silence)
-        (StoreMayBeAsked hub.old.store) (served clients.old.items (hub_state hub.old))
+        (StoreMayBeAsked (hub_store hub.old)) (served clients.old.items (hub_state hub.old))
         (served clients.new.items (hub_state hub.new))) }
-    ensures tried { OnOk result (StoreTried hub.old.store hub.new.store (Ok (tt {0}))) }
-    ensures cause_err { IfErr result (StoreCounts hub.old.store hub.new.store) }
-    ensures lasts { StoreLasts hub.old.store hub.new.store result }
+    ensures tried { OnOk result (StoreTried (hub_store hub.old) (hub_store hub.new) (Ok (tt {0}))) }
+    ensures cause_err { IfErr result (StoreCounts (hub_store hub.old) (hub_store hub.new)) }
+    ensures lasts { StoreLasts (hub_store hub.old) (hub_store hub.new) result }
 {
     let has_read = take_in_all(clients, hub, reading);
     if let Err(fault) = hub.turn(reading.at, LINES) {
@@ -219,11 +220,11 @@ impl<D: Device, S: Read + Write + From<Connection> + Drop> Server<D, S> {
         ensures nobody { OnFalse result (self.new.listener.given ≡ self.old.listener.given) }
         ensures stay { OnFalse result (self.new.clients.items ≡ self.old.clients.items) }
         ensures welcomes { IsWelcomed S.from_gives at (state_of_server self.old) (state_of_server self.new) }
-        ensures store { self.new.hub.store ≡ self.old.hub.store }
-        ensures refusals { self.new.hub.refusals ≡ self.old.hub.refusals }
+        ensures store { hub_store self.new.hub ≡ hub_store self.old.hub }
+        ensures refusals { hub_refusals self.new.hub ≡ hub_refusals self.old.hub }
         ensures silence { self.new.silence ≡ self.old.silence }
-        ensures waits { self.new.watch.calm_waits ≡ self.old.watch.calm_waits }
-        ensures blind { self.old.watch.is_blind ≡ true → self.new.watch.is_blind ≡ true }
+        ensures waits { calm_waits self.new.watch ≡ calm_waits self.old.watch }
+        ensures blind { is_blind self.old.watch ≡ true → is_blind self.new.watch ≡ true }
     {
         if !asks_for_one(self.rested, self.listener.outcome()) {
             return false;
@@ -249,14 +250,14 @@ impl<D: Device, S: Read + Write + From<Connection> + Drop> Server<D, S> {
 
     // Lets the connections go whose session is closed.
     fn part(&mut self)
-        ensures stay { self.new.clients.items ≡ open_in self.old.hub.sessions self.old.clients.items }
+        ensures stay { self.new.clients.items ≡ open_in (hub_state self.old.hub).sessions self.old.clients.items }
         ensures hub { self.new.hub ≡ self.old.hub }
         ensures rested { self.new.rested ≡ self.old.rested }
         ensures listener { self.new.listener ≡ self.old.listener }
         ensures turned_away { self.new.turned_away ≡ self.old.turned_away }
         ensures silence { self.new.silence ≡ self.old.silence }
-        ensures waits { self.new.watch.calm_waits ≡ self.old.watch.calm_waits }
-        ensures blind { self.old.watch.is_blind ≡ true → self.new.watch.is_blind ≡ true }
+        ensures waits { calm_waits self.new.watch ≡ calm_waits self.old.watch }
+        ensures blind { is_blind self.old.watch ≡ true → is_blind self.new.watch ≡ true }
     {
         let hub = &self.hub;
         self.clients.retain(|client| hub.is_open(client.sid()));
@@ -275,31 +276,31 @@ impl<D: Device, S: Read + Write + From<Connection> + Drop> Server<D, S> {
     /// the whole batch; at `Ok` every image means the latter.
     pub fn turn(&mut self, at: u64) -> Result<Turned, HubFault>
         ensures fault { IfErr result EndsServing }
-        ensures counts { self.new.hub.refusals ≡ refusals_after result self.old.hub.refusals }
+        ensures counts { hub_refusals self.new.hub ≡ refusals_after result (hub_refusals self.old.hub) }
         // The store's own fault tells why it refused what lines ask for.
         ensures refused { IfErr result (λ fault. IsTurnRefusal S.from_gives S.remaining (times at self.old.silence)
-            (StoreRefuses self.old.hub.store self.new.hub.store) fault (state_of_server self.old)
+            (StoreRefuses (hub_store self.old.hub) (hub_store self.new.hub)) fault (state_of_server self.old)
             (state_of_server self.new)) }
-        ensures tried { OnOk result (StoreTried self.old.hub.store self.new.hub.store (Ok (tt {0}))) }
-        ensures cause_err { IfErr result (StoreCounts self.old.hub.store self.new.hub.store) }
+        ensures tried { OnOk result (StoreTried (hub_store self.old.hub) (hub_store self.new.hub) (Ok (tt {0}))) }
+        ensures cause_err { IfErr result (StoreCounts (hub_store self.old.hub) (hub_store self.new.hub)) }
         // Whoever may wait is asked for, in each turn, and what comes is work.
         ensures asked { IsAskedFor self.old.rested self.old.listener self.new.listener }
         ensures came { IfOk result (λ turned. turned ≡ Turned.Idle
-            → self.new.listener.given ≡ self.old.listener.given) }
+            → (state_of_server self.new).given ≡ (state_of_server self.old).given) }
         // Work is one that came or clients that were there, so where an accept fails and no client is there it is none.
         ensures worked { IfOk result (λ turned. turned ≡ Turned.Worked
-            → (self.new.listener.given ≡ self.old.listener.given + 1)
-            ⊎ (0 < length (open_in self.old.hub.sessions self.old.clients.items))) }
+            → ((state_of_server self.new).given ≡ (state_of_server self.old).given + 1)
+            ⊎ (0 < length (open_in (hub_state self.old.hub).sessions self.old.clients.items))) }
         // The next turn reads for every client, unless a rest comes first.
         ensures again { OnOk result (self.new.rested ≡ Rested.Not) }
         // Each session hears what its client's stream gave, and what it is given goes to that stream, whatever the
         // streams are. At most one comes, who is a client or is counted as turned away.
         ensures served { OnOk result (HasGoneRound S.from_gives S.remaining S.contents (times at self.old.silence)
-            (StoreMayBeAsked self.old.hub.store) (state_of_server self.old) (state_of_server self.new)) }
+            (StoreMayBeAsked (hub_store self.old.hub)) (state_of_server self.old) (state_of_server self.new)) }
         ensures silence { self.new.silence ≡ self.old.silence }
-        ensures waits { self.new.watch.calm_waits ≡ self.old.watch.calm_waits }
-        ensures blind { self.old.watch.is_blind ≡ true → self.new.watch.is_blind ≡ true }
-        ensures lasts { StoreLasts self.old.hub.store self.new.hub.store result }
+        ensures waits { calm_waits self.new.watch ≡ calm_waits self.old.watch }
+        ensures blind { is_blind self.old.watch ≡ true → is_blind self.new.watch ≡ true }
+        ensures lasts { StoreLasts (hub_store self.old.hub) (hub_store self.new.hub) result }
     {
         // A number of a session that was closed may be given again.
         self.part();
@@ -322,10 +323,10 @@ impl<D: Device, S: Read + Write + From<Connection> + Drop> Server<D, S> {
         ensures clients { self.new.clients ≡ self.old.clients }
         // A hundred calm waits on end do not come, so neither do a hundred calm rests.
         ensures calm { self.new.rested ≡ Rested.Calm
-            → self.new.watch.calm_waits ≡ self.old.watch.calm_waits + 1 }
+            → calm_waits self.new.watch ≡ calm_waits self.old.watch + 1 }
         // None is where the system has refused to watch a socket.
-        ensures blind { self.old.watch.is_blind ≡ true → (self.new.rested ≡ Rested.Woken)
-            × (self.new.watch.is_blind ≡ true) }
+        ensures blind { is_blind self.old.watch ≡ true → (self.new.rested ≡ Rested.Woken)
+            × (is_blind self.new.watch ≡ true) }
         ensures woken { self.old.rested ≡ Rested.Woken → self.new.rested ≡ Rested.Woken }
         ensures turned_away { self.new.turned_away ≡ self.old.turned_away }
         ensures silence { self.new.silence ≡ self.old.silence }

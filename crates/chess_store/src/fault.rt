@@ -16,7 +16,8 @@ pub enum StoreFault {
     #[error("the device holds no journal")]
     NotOurs,
     /// No header is valid, a sector that it names does not hold records, or the records mean no table.
-    #[error("the journal is damaged: no header is valid, a sector that it names does not hold records, or they mean no table")]
+    #[error("the journal is damaged: no header is valid, a sector that it names does not hold records, or they mean no \
+        table")]
     Damaged,
     /// The device failed, and has counted it; so many entries may last or not, all of them or none.
     #[error("the device failed, and {pending} entries may last or not, all of them or none")]

@@ -7,7 +7,7 @@ use Rattle.server_answers.proofs.Apart.{refusal_none}
 use Rattle.lobby_words.specs.Answers.{act_game, first_line, is_table_act, answer, is_entered}
 use Rattle.lobby_words.specs.declared.players.Player.{Player}
 use Rattle.lobby_table.specs.declared.refusals.RefusedActs.{RefusedActs}
-use Rattle.lobby_desk.specs.Events.{DeskInput, Opened, Closed, Said, Hurried, Heard, ServerTurned, Renewed, Linked}
+use Rattle.lobby_desk.specs.Events.{DeskInput, Opened, Closed, Said, Hurried, Heard, ServerTurned, Renewed, Linked, Found}
 use Rattle.lobby_table.specs.Owed.{ForItself, ForPositions, ForTable, ForGame, ForAct, Owed, Nobody, Naming, Asker}
 use Rattle.lobby_table.specs.Owed.{Dropper, Pairer, Followers, Behind}
 use Rattle.lobby_table.specs.Refusals.{is_of_seated, is_refusal, game_named, refused_game, count_in, count_of}
@@ -157,6 +157,7 @@ now_counted (Heard line) k acts h =
 now_counted (Renewed later) k acts h = h
 now_counted (Linked c text later token) k acts h = h
 now_counted (ServerTurned is_here) k acts h = h
+now_counted (Found finding) k acts h = h
 
 are_counted : (players : List Player) (past : List Step) → AreCounted (known_in players past).refused (acted_in players past)
 are_counted players [] = λ game. refl

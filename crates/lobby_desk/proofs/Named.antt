@@ -24,7 +24,7 @@ use Rattle.lobby_words.specs.Answers.{is_whole, act_game, answer}
 use Rattle.lobby_desk.specs.Lines.{lines_of, is_said}
 use Rattle.lobby_table.specs.Sending.{act_lines, join_line, name_line, game_line, notice_lines}
 use Rattle.lobby_table.specs.Refusals.{game_named}
-use Rattle.lobby_desk.specs.Events.{DeskInput, Opened, Closed, Said, Hurried, Heard, ServerTurned, Renewed, Linked}
+use Rattle.lobby_desk.specs.Events.{DeskInput, Opened, Closed, Said, Hurried, Heard, ServerTurned, Renewed, Linked, Found}
 use Rattle.lobby_desk.specs.Events.{MessageValue, sort_asker, asker, followers_of, follower, asked_after}
 use Rattle.lobby_table.specs.Owed.{ForItself, ForPositions, ForTable, ForGame, ForAct, Owed, Nobody, Naming, Asker}
 use Rattle.lobby_table.specs.Owed.{Dropper, Pairer, Followers, Behind, owed_lines}
@@ -380,6 +380,7 @@ paired_now players past (Heard line) c black text h = absurd h
 paired_now players past (Renewed later) c black text h = absurd h
 paired_now players past (Linked d said later token) c black text h = absurd h
 paired_now players past (ServerTurned is_here) c black text h = absurd h
+paired_now players past (Found finding) c black text h = absurd h
 
 was_paired : (players : List Player) (past : List Step) (c : ℕ) (black text : List ℕ) → HasPaired players past c black text → WasPaired black text
 was_paired players [] c black text h = absurd h
@@ -523,6 +524,8 @@ done_waits players past old (Linked c text later token) lines tells now agrees b
     λ taken. waits_still (known_in players past).owed (unanswered_in players past) (shown_in players past) (name_in past) lines step.0.none (before taken)
 done_waits players past old (ServerTurned is_here) lines tells now agrees before step =
     λ taken. waits_still [] [] None None lines step.none (tt, refl)
+done_waits players past old (Found finding) lines tells now agrees before step =
+    λ taken. waits_still (known_in players past).owed (unanswered_in players past) (shown_in players past) (name_in past) lines step.none (before taken)
 done_waits players past old (Said c text at) lines tells now agrees before step =
     let k = known_in players past in
     let fits = said_fits (players_in players past) old c text lines tells now step.0 in
@@ -589,6 +592,7 @@ event_named players past (Heard line) before = heard_named players past line bef
 event_named players past (Renewed later) before = tt
 event_named players past (Linked c text later token) before = tt
 event_named players past (ServerTurned is_here) before = tt
+event_named players past (Found finding) before = tt
 
 pub run_named : (players : List Player) (is_paused : Bool) (steps : List Step) (now : View) → IsRun players is_paused steps now →
     InStep players steps × AllNamed players steps

@@ -1,5 +1,5 @@
 -- What is promised holds of each run.
-use Rattle.std.proofs.Common.{ℕ, ◌≡◌, ◌<◌, ◌+◌, ◌^◌, ◌⊎◌, inl, inr, Bool, true, false, ◌&&◌, ◌||◌, ◌==◌, not, List, [], ◌∷◌, ◌++◌, Option, None, Some, IfSome, codes, cond, refl, sym, ap, ◌∙◌, subst, arith}
+use Rattle.std.proofs.Common.{ℕ, ◌≡◌, ◌<◌, ◌+◌, ◌^◌, ◌⊎◌, inl, inr, Bool, true, false, ◌&&◌, ◌||◌, ◌==◌, not, List, [], ◌∷◌, ◌++◌, Option, None, Some, IfSome, codes, cond, map, refl, sym, ap, ◌∙◌, subst, arith}
 use Rattle.std.specs.Prelude.{if◌then◌else◌, option_map, is_some, nat_le, ◌-◌}
 use Rattle.std.specs.List.{AllByRecursion}
 use Rattle.std.specs.Str.{bytes_eq}
@@ -31,10 +31,11 @@ use Rattle.lobby_words.specs.Answers.{is_shown, first_line, act_game, answer}
 use Rattle.lobby_table.specs.Refusals.{game_named}
 use Rattle.lobby_table.specs.Watching.{watch_if, sit_if, watches_kept, table_kept, risen}
 use Rattle.lobby_table.specs.Visitors.{acting}
-use Rattle.lobby_desk.specs.Events.{DeskInput, Opened, Closed, Said, Hurried, Heard, ServerTurned, Renewed, Linked}
+use Rattle.lobby_desk.specs.Events.{DeskInput, Opened, Closed, Said, Hurried, Heard, ServerTurned, Renewed, Linked, Found}
+use Rattle.lobby_players.specs.Halts.{found_line, found_texts}
 use Rattle.lobby_words.specs.declared.words.Call.{Call}
 use Rattle.lobby_words.specs.declared.words.Call.TheVariants as calls
-use Rattle.lobby_desk.specs.Events.{MessageValue, to_one, sort_asker, asker, followers_of, follower, Following}
+use Rattle.lobby_desk.specs.Events.{MessageValue, to_one, to_log, sort_asker, asker, followers_of, follower, Following}
 use Rattle.lobby_desk.specs.Events.{is_asked_behind, game_if, asked_after}
 use Rattle.lobby_table.specs.Owed.{ForItself, ForPositions, ForTable, ForGame, ForAct, Owed, Nobody, Naming, Asker}
 use Rattle.lobby_table.specs.Owed.{Dropper, Pairer, Followers, Behind, owed_last, owed_acted, owed_some, owed_lines}
@@ -608,6 +609,7 @@ watches_alike (Heard line) f g same k =
 watches_alike (Renewed later) f g same k = watches_kept_alike f g same k.watches
 watches_alike (Linked c text later token) f g same k = watches_kept_alike f g same k.watches
 watches_alike (ServerTurned is_here) f g same k = refl
+watches_alike (Found finding) f g same k = refl
 
 -- and so does who is told of the table
 table_alike : (f g : ℕ → Bool) → ((c : ℕ) → f c ≡ g c) → (o : Owed) (table : List ℕ) → table_heard f o table ≡ table_heard g o table
@@ -644,6 +646,7 @@ tables_alike (Heard line) f g same k =
 tables_alike (Renewed later) f g same k = table_kept_alike f g same k.table
 tables_alike (Linked c text later token) f g same k = table_kept_alike f g same k.table
 tables_alike (ServerTurned is_here) f g same k = refl
+tables_alike (Found finding) f g same k = refl
 
 known_alike : (event : DeskInput) (by : List ℕ) (lines : List (List ℕ)) (f g : ℕ → Bool) → ((c : ℕ) → f c ≡ g c) → (k : Known) →
     known_now event by lines f k ≡ known_now event by lines g k
@@ -665,8 +668,9 @@ speaker_alike f g same (Said c text at) = ap name_of (same c)
 speaker_alike f g same (Hurried c) = refl
 speaker_alike f g same (Heard line) = refl
 speaker_alike f g same (Renewed later) = refl
-speaker_alike f g same (Linked c text later token) = refl
+speaker_alike f g same (Linked c text later token) = ap name_of (same c)
 speaker_alike f g same (ServerTurned is_here) = refl
+speaker_alike f g same (Found finding) = refl
 
 -- what connections are told is right by what the past says
 all_alike : (f g : ℕ → Bool) → ((c : ℕ) → f c ≡ g c) → (first : List MessageValue) (text : List ℕ) (tells : List MessageValue) →
@@ -728,6 +732,7 @@ told_alike (Linked c text later token) lines tells f g same p q acts k h = (
   h.2 ∙ ap (λ (w : Option Identity). change_told (name_of w) c text token) (acts c),
 )
 told_alike (ServerTurned is_here) lines tells f g same p q acts k h = all_alike f g same (lost k.owed) (presence is_here) tells h
+told_alike (Found finding) lines tells f g same p q acts k h = all_alike f g same (map to_log (found_texts finding)) (found_line finding) tells h
 
 -- each drop, and each pairing, that waits was asked for
 abbrev pub IsAsked : List Player → List Step → Owed → Type 0
@@ -1137,6 +1142,7 @@ asked_now players past (Heard line) c text h = absurd h
 asked_now players past (Renewed later) c text h = absurd h
 asked_now players past (Linked d said later token) c text h = absurd h
 asked_now players past (ServerTurned is_here) c text h = absurd h
+asked_now players past (Found finding) c text h = absurd h
 
 pub was_asked : (players : List Player) (past : List Step) (c : ℕ) (text : List ℕ) → HasAsked players past c text → WasAsked text
 was_asked players [] c text h = absurd h
@@ -1290,6 +1296,7 @@ came_then players past old (Heard line) lines tells now agrees step c h = subst 
 came_then players past old (Renewed later) lines tells now agrees step c h = subst (λ (n : ℕ). c < n) (sym step.next_is) (agrees.came c h)
 came_then players past old (Linked d text later token) lines tells now agrees step c h = subst (λ (n : ℕ). c < n) (sym step.0.next_is) (agrees.came c h)
 came_then players past old (ServerTurned is_here) lines tells now agrees step c h = subst (λ (n : ℕ). c < n) (sym step.next_is) (agrees.came c h)
+came_then players past old (Found finding) lines tells now agrees step c h = subst (λ (n : ℕ). c < n) (sym step.next_is) (agrees.came c h)
 
 none_done : (players : List Player) (past : List Step) (event : DeskInput) (lines : List (List ℕ)) (now : View) →
     (lines ≡ [] → IsRight players past event lines) → lines ≡ [] → now.said ≡ name_before event (name_in past) →
@@ -1351,6 +1358,7 @@ offers_alike players f g same (Heard line) offers = refl
 offers_alike players f g same (Renewed later) offers = refl
 offers_alike players f g same (Linked c text later token) offers = refl
 offers_alike players f g same (ServerTurned is_here) offers = refl
+offers_alike players f g same (Found finding) offers = refl
 
 -- what is offered then is what the past says
 offers_then : (players : List Player) (past : List Step) (event : DeskInput) (old now : View) → Agrees players past old →
@@ -1416,6 +1424,9 @@ done_good players past old (Linked c text later token) lines tells now agrees st
     (λ d. renewed_who players past old later lines now agrees step.0 d)
 done_good players past old (ServerTurned is_here) lines tells now agrees step =
     none_done players past (ServerTurned is_here) lines now (λ none. none) step.none step.said_is (λ d. step.who_is d ∙ agrees.who d)
+done_good players past old (Found finding) lines tells now agrees step =
+    none_done players past (Found finding) lines now (λ none. none) step.none (step.said_is ∙ agrees.said)
+    (λ d. step.who_is d ∙ agrees.who d)
 
 -- each drop that waits then was asked for
 asked_then : (players : List Player) (past : List Step) (old : View) (event : DeskInput) (lines : List (List ℕ)) (tells : List MessageValue) (now : View) →
@@ -1442,6 +1453,7 @@ asked_then players past old (Heard line) lines tells now agrees step =
 asked_then players past old (Renewed later) lines tells now agrees step = are_asked_later players (record { event = Renewed later; lines = lines; tells = tells }) past old.known.owed agrees.asked
 asked_then players past old (Linked c text later token) lines tells now agrees step = are_asked_later players (record { event = Linked c text later token; lines = lines; tells = tells }) past old.known.owed agrees.asked
 asked_then players past old (ServerTurned is_here) lines tells now agrees step = tt
+asked_then players past old (Found finding) lines tells now agrees step = are_asked_later players (record { event = Found finding; lines = lines; tells = tells }) past old.known.owed agrees.asked
 
 begins_known : (players : List Player) (is_paused : Bool) (now : View) → BeginsView is_paused now → now.known ≡ known_in players []
 begins_known players is_paused now begins =

@@ -5,6 +5,7 @@ use Rattle.std.specs.String.{string_bytes}
 use Rattle.lobby_desk.specs.declared.telling.Kind.{Kind}
 use Rattle.lobby_desk.specs.declared.telling.Kind.TheVariants as kinds
 use Rattle.lobby_desk.specs.declared.telling.Message.{Message}
+use Rattle.lobby_players.specs.declared.halts.Finding.{Finding}
 use Rattle.lobby_words.specs.declared.players.Player.{Player}
 use Rattle.lobby_table.specs.declared.server_line.Due.{Due}
 use Rattle.lobby_table.specs.declared.server_line.Due.TheVariants as dues
@@ -20,7 +21,8 @@ use Rattle.lobby_table.specs.Owed.{ForItself, ForPositions, ForTable, ForGame, F
 use Rattle.lobby_table.specs.Owed.{Dropper, Pairer, Followers, Behind}
 
 -- What comes in; a message at a moment, and of one that comes too fast nothing is read. The players are these from now
--- on: by themselves, or for a message that asks for a player's link, and for which this token was made.
+-- on: by themselves, or for a message that asks for a player's link, and for which this token was made. And what is
+-- found beside.
 pub data DeskInput : Type 0 where
   Opened : (c : ℕ) → DeskInput
   Closed : (c : ℕ) → DeskInput
@@ -30,6 +32,7 @@ pub data DeskInput : Type 0 where
   ServerTurned : (is_here : Bool) → DeskInput
   Renewed : (players : List Player) → DeskInput
   Linked : (c : ℕ) → (text : List ℕ) → (players : List Player) → (token : List ℕ) → DeskInput
+  Found : (finding : Finding) → DeskInput
 
 -- the server is gone, and is there again
 abbrev pub Gone : DeskInput

@@ -13,16 +13,18 @@ use Rattle.lobby_words.specs.Words.{is_login_sort, is_link_sort, number_or_0}
 use Rattle.lobby_words.specs.Players.{holder_of, known_name, renewed, IsChanged}
 use Rattle.lobby_words.specs.Answers.{act_game, answer, is_entered, lone_player}
 use Rattle.lobby_table.specs.Sending.{name_line, game_line, join_line, notice_lines}
-use Rattle.lobby_desk.specs.Events.{DeskInput, Opened, Closed, Said, Heard, ServerTurned, Renewed, Linked, MessageValue}
+use Rattle.lobby_players.specs.Halts.{found_texts}
+use Rattle.lobby_desk.specs.Events.{DeskInput, Opened, Closed, Said, Heard, ServerTurned, Renewed, Linked, Found}
 use Rattle.lobby_table.specs.Owed.{ForAct, Owed, Asker, Dropper, Pairer, Followers}
-use Rattle.lobby_desk.specs.Events.{Following, asked_after, told_as}
+use Rattle.lobby_desk.specs.Events.{MessageValue, Following, asked_after, told_as}
 use Rattle.lobby_words.specs.Naming.{takes_name}
 use Rattle.lobby_table.specs.Refusals.{game_named, refused_game}
 use Rattle.lobby_words.specs.declared.listing.Seat.{Seat}
 use Rattle.lobby_table.specs.declared.pairings.Pairing.{Pairing}
 use Rattle.lobby_table.specs.Pairings.{game_joined, IsFree, IsOffered}
 use Rattle.lobby_desk.specs.Logging.{act_logged, is_of_act, one_if, log_texts}
-use Rattle.lobby_desk.specs.Tellings.{Known, is_counted, known_now, pairings_now, open_now, call_said, IsTold}
+use Rattle.lobby_desk.specs.Tellings.{Known, is_counted, known_now, pairings_now, open_now, call_said, change_said}
+use Rattle.lobby_desk.specs.Tellings.{IsTold}
 pub use Rattle.lobby_desk.specs.Tellings.{IsArbiter}
 use Rattle.lobby_table.specs.Owed.{is_number}
 use Rattle.lobby_table.specs.Visitors.{acting}
@@ -440,8 +442,9 @@ entries_now acts (Heard line) k =
 entries_now acts _ k = []
 
 -- What the log is to have of a message that asks for nothing of the server, by whom it is, where the log is told
--- anything for it, as of an arbiter's of which everybody is told (`AreToldSome`): him and the message; and what it is
--- told where the players' file was changed (`change_told`). It is none of an act.
+-- anything for it, as of an arbiter's of which everybody is told (`AreToldSome`): him and the message; where the
+-- players' file was changed the same, always; and that clocks were stopped by hand, or have to run (`found_texts`). It
+-- is none of an act.
 abbrev pub call_entry : Sort → List ℕ → List ℕ → List (List ℕ)
 call_entry (sorts.Call call) by text = call_said call by text ∷ []
 call_entry _ by text = []
@@ -452,7 +455,8 @@ entry_said (told ∷ more) sort by text = call_entry sort by text
 
 abbrev pub said_entries : DeskInput → List ℕ → List MessageValue → List (List ℕ)
 said_entries (Said c text at) by tells = entry_said (log_texts tells) (sort_of text) by text
-said_entries (Linked c text players token) by tells = log_texts tells
+said_entries (Linked c text players token) by tells = change_said by text ∷ []
+said_entries (Found finding) by tells = found_texts finding
 said_entries _ by tells = []
 
 abbrev pub entries_in : List Player → List Step → List (List ℕ)

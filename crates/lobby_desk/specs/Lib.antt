@@ -4,7 +4,6 @@ pub mod Limits
 pub mod Events
 pub mod Logging
 pub mod Tellings
-pub mod Halts
 pub mod Who
 pub mod Strangers
 pub mod History

@@ -1,6 +1,6 @@
 -- What connections are told.
 use Rattle.std.specs.Prelude.{ℕ, ◌≡◌, ◌⊎◌, Bool, true, false, ◌&&◌, ◌||◌, ◌==◌, not, List, [], ◌∷◌, ◌++◌, codes}
-use Rattle.std.specs.Prelude.{decimal, Option, None, Some, is_some, length, nat_le, if◌then◌else◌}
+use Rattle.std.specs.Prelude.{decimal, map, Option, None, Some, is_some, length, nat_le, if◌then◌else◌}
 use Rattle.std.specs.List.{list_any}
 use Rattle.lobby_words.specs.declared.listing.Seat.{Seat}
 use Rattle.lobby_table.specs.declared.watching.Watch.{Watch}
@@ -23,7 +23,8 @@ use Rattle.lobby_table.specs.Watching.{at_table, watch_if, sit_if, unwatched, no
 use Rattle.lobby_table.specs.Watching.{watches_kept, table_kept}
 use Rattle.lobby_table.specs.Visitors.{acting}
 use Rattle.lobby_desk.specs.Events.{DeskInput, Opened, Closed, Said, Hurried, Heard, ServerTurned, Renewed, Linked}
-use Rattle.lobby_desk.specs.Events.{MessageValue, to_one, to_one_as, to_log}
+use Rattle.lobby_desk.specs.Events.{Found, MessageValue, to_one, to_one_as, to_log}
+use Rattle.lobby_players.specs.Halts.{found_line, found_texts}
 use Rattle.lobby_table.specs.Owed.{Ask, ForPositions, ForGame, ForTable, ForAct, Owed}
 use Rattle.lobby_table.specs.Owed.{Nobody, Naming, Asker, Dropper, Pairer, Followers, Behind, owed_lines}
 use Rattle.lobby_desk.specs.Events.{asker}
@@ -419,9 +420,11 @@ token_told closes token = if closes then codes "\n" else codes " " ++ token ++ c
 abbrev pub linked_text : List ℕ → List ℕ → List ℕ
 linked_text text token = codes "ok " ++ text ++ token_told (is_close_sort (sort_of text)) token
 
+abbrev pub change_said : List ℕ → List ℕ → List ℕ
+change_said by text = said_by (codes "players by ") by text
+
 abbrev pub change_told : List ℕ → ℕ → List ℕ → List ℕ → List MessageValue
-change_told by c text token =
-    to_log (said_by (codes "players by ") by text) ∷ to_one c (linked_text text token) ∷ []
+change_told by c text token = to_log (change_said by text) ∷ to_one c (linked_text text token) ∷ []
 
 -- these messages, and behind them one to every connection that is open
 abbrev pub AreToldAll : (ℕ → Bool) → List MessageValue → List ℕ → List MessageValue → Type 0
@@ -445,3 +448,5 @@ IsTold (Renewed players) lines tells is_open acts_for k = tells ≡ []
 IsTold (Linked c text players token) lines tells is_open acts_for k =
     (is_open c ≡ true) × (owes k.owed c ≡ false) × (tells ≡ change_told (name_of (acts_for c)) c text token)
 IsTold (ServerTurned is_here) lines tells is_open acts_for k = AreToldAll is_open (lost k.owed) (presence is_here) tells
+IsTold (Found finding) lines tells is_open acts_for k =
+    AreToldAll is_open (map to_log (found_texts finding)) (found_line finding) tells

@@ -20,7 +20,9 @@ use Rattle.lobby_words.specs.declared.players.Player.{Player}
 use Rattle.lobby_table.specs.declared.visitors.Visitor.{Visitor}
 use Rattle.lobby_table.specs.declared.watching.Watch.{Watch}
 use Rattle.lobby_desk.specs.declared.desk.Desk.{Desk}
-use Rattle.lobby_desk.specs.Halts.{Halted, halted, halted_after, halts_bar, stop_bar, told_behind}
+use Rattle.lobby_players.specs.declared.halts.Finding.{Finding}
+use Rattle.lobby_players.specs.Halts.{Halted, halted, halted_after, halted_found, halts_bar, stop_bar, shuts}
+use Rattle.lobby_players.specs.Halts.{told_behind}
 use Rattle.lobby_words.specs.Words.{rest_of, as_name, black_name, is_pair, actor, is_message, sort_of, u32_in}
 use Rattle.lobby_words.specs.Words.{is_decide_sort, is_decision, is_login_sort}
 use Rattle.lobby_words.specs.Waiting.{opens_game, joins_game}
@@ -39,7 +41,7 @@ use Rattle.lobby_table.specs.Pairings.{game_bar, open_bar, join_bar}
 use Rattle.lobby_desk.specs.Pace.{is_too_fast}
 pub use Rattle.lobby_table.specs.Watching.{at_table}
 use Rattle.lobby_desk.specs.Events.{DeskInput, Opened, Closed, Said, Hurried, Heard, ServerTurned, Renewed, Linked}
-use Rattle.lobby_desk.specs.Events.{MessageValue, Outgoing, to_one}
+use Rattle.lobby_desk.specs.Events.{Found, MessageValue, Outgoing, to_one}
 use Rattle.lobby_table.specs.Owed.{ForAct, Owed, Asker, Dropper, Pairer, owed_of, owed_lines}
 use Rattle.lobby_desk.specs.Events.{plan_asker, follower, following, asked_after, follows_heard, told_as}
 use Rattle.lobby_desk.specs.Tellings.{Known, is_counted, open_now, watch_heard, watch_next, table_heard, table_next}
@@ -85,6 +87,7 @@ open_of desk c = open_in_map desk.visitors c
 -- the name of the player for whom a connection acts that says a message
 abbrev pub speaker : (ℕ → Option Identity) → DeskInput → List ℕ
 speaker who (Said c text at) = name_of (who c)
+speaker who (Linked c text players token) = name_of (who c)
 speaker who _ = []
 
 -- the player for whom a connection acts, after the plan for a message of it
@@ -340,7 +343,7 @@ standing_of put desk c text at = record {
   bar = bar_of desk.limits (known desk) (halted desk.halts) put (who_of desk c) text;
   accord = accord_of desk.players.items (who_of desk) c text at (map offered desk.offers.items);
   pair_bar = pair_bar_of desk.limits (known desk) (halted desk.halts) text;
-  is_paused = (opens_game text || is_pair text) && desk.halts.is_paused;
+  is_paused = shuts (halted desk.halts) text;
   at = at;
 }
 
@@ -388,7 +391,7 @@ pub record IsSaid (players : List Player) (old : View) (c : ℕ) (text : List �
   pub bar : standing.bar ≡ bar_of old.limits old.known old.halts put (old.who c) text
   pub accord : standing.accord ≡ accord_of players old.who c text standing.at old.offers
   pub pair_bar : standing.pair_bar ≡ pair_bar_of old.limits old.known old.halts text
-  pub paused : standing.is_paused ≡ ((opens_game text || is_pair text) && old.halts.paused)
+  pub paused : standing.is_paused ≡ shuts old.halts text
   pub plan : Plan
   pub planned : plan ≡ plan_of (is_message text) (sort_of text) standing (u32_in (rest_of text))
   pub named : IsNamed plan
@@ -476,7 +479,8 @@ pub record IsMoved (old : View) (c : ℕ) (lines : List (List ℕ)) (new : View)
   pub who_is : (d : ℕ) → new.who d ≡ (if c == d then None else old.who d)
 
 -- A connection came: it has the number that comes next, which none had before, and is told whether the server is there,
--- and in one message with it why all clocks are stopped, where they are, and what is announced.
+-- and in one message with it why all clocks are stopped, where they are, what is announced, and that there is no room
+-- for the log, where there is none.
 pub record IsOpened (old : View) (c : ℕ) (lines : List (List ℕ)) (tells : List MessageValue) (new : View) : Type 0 where
   pub told : tells ≡ to_one c (told_behind (presence old.here) old.halts) ∷ []
   pub moved : IsMoved old c lines new
@@ -506,8 +510,18 @@ pub record IsTurned (old : View) (here : Bool) (lines : List (List ℕ)) (new : 
   pub halts_is : new.halts ≡ old.halts
   pub who_is : (d : ℕ) → new.who d ≡ old.who d
 
+-- It is found what halts games, or does so no more: nothing goes out, and this holds from now on.
+pub record IsFound (old : View) (finding : Finding) (lines : List (List ℕ)) (new : View) : Type 0 where
+  pub none : lines ≡ []
+  pub next_is : new.next ≡ old.next
+  pub said_is : new.said ≡ old.said
+  pub here_is : new.here ≡ old.here
+  pub halts_is : new.halts ≡ halted_found finding old.halts
+  pub who_is : (d : ℕ) → new.who d ≡ old.who d
+
 -- The players are others from now on: a connection acts for a player on just where his sum is the same. Who acts for
--- nobody then watches nothing more, and is told of the table no more (`watches_now`, `table_now`). Nothing else changes.
+-- nobody then watches nothing more, and is told of the table no more (`watches_now`, `table_now`). Nothing else
+-- changes.
 pub record IsRenewed (players : List Player) (old : View) (later : List Player) (lines : List (List ℕ))
     (new : View) : Type 0 where
   pub none : lines ≡ []
@@ -541,6 +555,7 @@ IsDone players old (Renewed later) lines tells new = IsRenewed players old later
 IsDone players old (Linked c text later token) lines tells new =
     IsRenewed players old later lines new × IsLinked players old c text later token
 IsDone players old (ServerTurned is_here) lines tells new = IsTurned old is_here lines new
+IsDone players old (Found finding) lines tells new = IsFound old finding lines new
 
 -- What is known then, where these connections act for a player then, and the one that has spoken for the one of this
 -- name.

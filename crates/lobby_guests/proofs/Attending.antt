@@ -34,10 +34,11 @@ module _ {S : Type 0} (remaining : S → Option (List ℕ)) (site : Site) (at : 
 
   -- who acts for a player is read for, and heard or put off
   heard_or_not : (old new : Guest S) (room after : Asking) → IsPlayerHeard at old new room after → IsHeard at old new room.talk after.talk
-  heard_or_not old new room after (inl acts) = acts.heard.heard
-  heard_or_not old new room after (inr (inl brief)) = brief.heard.heard
-  heard_or_not old new room after (inr (inr (inl long))) = long.heard.heard
-  heard_or_not old new room after (inr (inr (inr off))) = inr (off.guest, ap (λ (r : Asking). r.talk) off.rest)
+  heard_or_not old new room after (inl (paced, inl acts)) = acts.heard.heard
+  heard_or_not old new room after (inl (paced, inr (inl brief))) = brief.heard.heard
+  heard_or_not old new room after (inl (paced, inr (inr long))) = long.heard.heard
+  heard_or_not old new room after (inr (inl ahead)) = inr (ahead.guest, ap (λ (r : Asking). r.talk) ahead.rest)
+  heard_or_not old new room after (inr (inr off)) = inr (off.guest, ap (λ (r : Asking). r.talk) off.rest)
 
   served_if : (b : Bool) (old new : Guest S) (room after : Asking) →
       IsServedIf b (IsPlayerServed remaining site at old new room after) old new room after →

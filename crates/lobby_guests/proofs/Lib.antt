@@ -7,3 +7,4 @@ mod Wanted
 pub mod Catching
 mod Waking
 mod Writing
+mod Pacing

@@ -1,8 +1,9 @@
 -- What happens at a browser's connection.
-use Rattle.std.specs.Prelude.{ℕ, ◌≡◌, ◌≢◌, ◌≤◌, ◌<◌, ◌+◌, ◌-◌, ◌/◌, ◌^◌, ◌⊎◌, ◌↔◌, ◌&&◌, ◌||◌, ◌==◌}
-use Rattle.std.specs.Prelude.{nat_le, nat_lt, min, max, Bool, true, false, not}
+use Rattle.std.specs.Prelude.{ℕ, ◌≡◌, ◌≢◌, ◌≤◌, ◌<◌, ◌+◌, ◌-◌, ◌/◌, ◌⊎◌, ◌↔◌, ◌&&◌, ◌||◌, ◌==◌}
+use Rattle.std.specs.Prelude.{nat_le, nat_lt, min, Bool, true, false, not}
 use Rattle.std.specs.Prelude.{count_by, if◌then◌else◌, is_some, List, [], ◌∷◌, ◌++◌, Option, None, Some}
 use Rattle.std.specs.Prelude.{length, take, filter, Result, Ok, Err, is_err}
+use Rattle.std.specs.BTreeMap.{BTreeMap}
 use Rattle.std.specs.List.{AllZip}
 use Rattle.std.specs.Io.KnownBytes.{Consumes, Appends}
 use Rattle.std.specs.Str.{bytes_eq}
@@ -18,7 +19,7 @@ use Rattle.lobby_web.specs.declared.socket.Heard.TheVariants as heards
 use Rattle.lobby_web.specs.declared.socket.Unsaid.{Unsaid}
 use Rattle.lobby_web.specs.declared.socket.Unsaid.TheVariants as unsaids
 use Rattle.lobby_web.specs.Browsing.{IsNew, IsOver, pending, unread, WantsBytes, Takes, HearsNext, SaysTo, Writes}
-use Rattle.lobby_talk.specs.Front.{has_act, has_brief}
+use Rattle.lobby_talk.specs.Front.{has_act, has_brief, may_be_act}
 use Rattle.lobby_guests.specs.declared.guest.Guest.{Guest}
 use Rattle.lobby_guests.specs.declared.origin.Origin.{Origin}
 use Rattle.lobby_guests.specs.Origins.{IsToldOrigin}
@@ -29,7 +30,10 @@ use Rattle.lobby_talk.specs.Keeping.{IsMadeOf}
 use Rattle.lobby_talk.specs.Replaying.{Replays}
 use Rattle.lobby_talk.specs.declared.kept_answer.KeptAnswer.{KeptAnswer}
 use Rattle.lobby_talk.specs.declared.under_way.UnderWay.{UnderWay}
+use Rattle.lobby_guests.specs.declared.rounds.Asks.{Asks}
 use Rattle.lobby_guests.specs.declared.waiting.Waiting.{Waiting}
+use Rattle.lobby_guests.specs.Paces.{payer_of, paid_by, may_act, acts_from, PaysIf}
+pub use Rattle.lobby_guests.specs.Paces.{taken_until}
 use Rattle.lobby_guests.specs.Waiting.{IsCopyOf, is_line, must_wait, IsToldBy, AtLine, wanted, first_of}
 
 -- A connection that begins: nothing came of it, and it has no number.
@@ -148,10 +152,6 @@ pub record IsAttended {S : Type 0} (remaining : S → Option (List ℕ)) (site :
   pub reads : IsRead remaining site old read
   pub hears : IsHeard at read new talk after
 
--- until when the time of a connection is taken, once so many milliseconds more of it are taken at a moment
-abbrev pub taken_until : ℕ → ℕ → ℕ → ℕ
-taken_until at until millis = min (max until at + millis) (2 ^ 64 - 1)
-
 -- the same once it was told a text: of an answer a millisecond for each 200 bytes, and of a notice none
 abbrev pub paid_for : ℕ → List ℕ → ℕ → ℕ
 paid_for at text until = if is_answer text then taken_until at until (length text / 200) else until
@@ -212,15 +212,46 @@ abbrev pub has_time : ℕ → ℕ → Bool
 has_time at until = nat_le (until - at) 10000
 
 -- what players may still ask in a turn that is no act: so many more messages are taken, over all connections; and whose
--- was taken last that may ask for much, by its number at the desk
+-- was taken last that may ask for much, by its number at the desk; until when each player has paid for his acts, and
+-- from when on the first of those may be taken that wait for that
 pub record Asking : Type 0 where
   pub talk : Talk
   pub left : ℕ
   pub asker : Option ℕ
+  pub paces : BTreeMap ℕ ℕ
+  pub next_act : Option ℕ
+
+abbrev pub room_of : Talk → Asks → Asking
+room_of talk asks = record {
+  talk = talk;
+  left = asks.round.left;
+  asker = asks.asker;
+  paces = asks.paces;
+  next_act = asks.next_act;
+}
 
 -- So many are taken in a turn at most.
 abbrev pub asked_most : ℕ
 asked_most = 8
+
+-- the same at the beginning of a turn
+abbrev pub full_asking : Talk → Asks → Asking
+full_asking talk asks = record {
+  talk = talk;
+  left = asked_most;
+  asker = asks.asker;
+  paces = asks.paces;
+  next_act = None;
+}
+
+-- until when the player for whom a connection acts has paid for his acts, over all connections that act for him
+abbrev pub paid_for_acts : {S : Type 0} → Asking → Guest S → ℕ
+paid_for_acts room guest = paid_by room.paces (payer_of room.talk.desk guest.number)
+
+abbrev pub earlier : Option ℕ → Option ℕ → Option ℕ
+earlier None b = b
+earlier (Some a) None = Some a
+earlier (Some a) (Some b) = Some (min a b)
 
 -- Nothing is owed to the connection that asked last, or it acts for nobody any more, as where it is gone.
 abbrev pub IsAnswered : Desk → Option ℕ → Type 0
@@ -234,7 +265,23 @@ pub record IsHeardNow {S : Type 0} (at : ℕ) (old new : Guest S) (talk after : 
   pub waits : length old.waits.items ≢ 0 → (new ≡ old) × (after ≡ talk)
   pub owes : new.paid_until ≡ owed_after old.number new.number old.paid_until
 
--- An act that stands in front of what came of one is heard at once.
+-- Something may have come of one, nothing waits for it, and the desk takes what comes next of it.
+pub record MayBeAsked {S : Type 0} (desk : Desk) (guest : Guest S) : Type 0 where
+  pub more : guest.has_more ≡ true
+  pub stays : guest.is_lost ≡ false
+  pub free : guest.waits.items ≡ []
+  pub speaks : MaySpeak desk guest.number
+
+-- Where an act stands in front of what came of one, or may, its player has not paid too far ahead, and pays for it just
+-- where it may be taken; for all else nobody pays.
+pub record IsPaced {S : Type 0} (at : ℕ) (guest : Guest S) (room after : Asking) : Type 0 where
+  pub in_time : may_be_act (unread guest.browser.stage) ≡ true → may_act at (paid_for_acts room guest) ≡ true
+  pub is_taken : Bool
+  pub taken : (is_taken ≡ true) ↔ (may_be_act (unread guest.browser.stage) ≡ true) × MayBeAsked room.talk.desk guest
+  pub pays : PaysIf is_taken at (payer_of room.talk.desk guest.number) room.paces after.paces
+  pub next_act : after.next_act ≡ room.next_act
+
+-- An act that stands in front is heard at once.
 pub record IsActing {S : Type 0} (at : ℕ) (old new : Guest S) (room after : Asking) : Type 0 where
   pub act : has_act (unread old.browser.stage) ≡ true
   pub heard : IsHeardNow at old new room.talk after.talk
@@ -256,6 +303,13 @@ pub record IsLong {S : Type 0} (at : ℕ) (old new : Guest S) (room after : Aski
   pub last : after.left ≡ 0
   pub asker : after.asker ≡ old.number
 
+-- What may be an act waits where its player has paid too far ahead, until he has not.
+pub record IsAhead {S : Type 0} (at : ℕ) (old new : Guest S) (room after : Asking) : Type 0 where
+  pub act : may_be_act (unread old.browser.stage) ≡ true
+  pub ahead : may_act at (paid_for_acts room old) ≡ false
+  pub guest : new ≡ old
+  pub rest : after ≡ record room { next_act = earlier room.next_act (Some (acts_from (paid_for_acts room old))) }
+
 -- Or it stays where it is.
 pub record IsPutOff {S : Type 0} (old new : Guest S) (room after : Asking) : Type 0 where
   pub other : has_act (unread old.browser.stage) ≡ false
@@ -264,8 +318,9 @@ pub record IsPutOff {S : Type 0} (old new : Guest S) (room after : Asking) : Typ
 
 abbrev pub IsPlayerHeard : {S : Type 0} → ℕ → Guest S → Guest S → Asking → Asking → Type 0
 IsPlayerHeard at old new room after =
-    IsActing at old new room after ⊎ IsBrief at old new room after ⊎ IsLong at old new room after
-    ⊎ IsPutOff old new room after
+    IsPaced at old room after × (IsActing at old new room after ⊎ IsBrief at old new room after
+    ⊎ IsLong at old new room after)
+    ⊎ IsAhead at old new room after ⊎ IsPutOff old new room after
 
 -- It is read for, and heard.
 pub record IsPlayerServed {S : Type 0} (remaining : S → Option (List ℕ)) (site : Site) (at : ℕ)
@@ -316,11 +371,6 @@ due_at at guest =
     let moment = guest.paid_until - ahead_at at guest.paid_until in
     if may_have guest && nat_lt at moment then Some moment else None
 
-abbrev pub earlier : Option ℕ → Option ℕ → Option ℕ
-earlier None b = b
-earlier (Some a) None = Some a
-earlier (Some a) (Some b) = Some (min a b)
-
 -- the earliest of these moments, if there is any
 abbrev pub first_due : {S : Type 0} → ℕ → List (Guest S) → Option ℕ
 first_due at [] = None
@@ -369,11 +419,10 @@ full_room talk = record { talk = talk; left = others_most }
 -- of those who act for nobody are.
 pub record AreAttended {S : Type 0} (remaining : S → Option (List ℕ)) (site : Site) (at : ℕ) (old new : List (Guest S))
     (talk after : Talk) : Type 0 where
-  pub asker : Option ℕ
+  pub asks : Asks
   pub first : List (Guest S)
   pub said : Asking
-  pub players : InTurn (IsPlayersTurn remaining site at) old first
-      (record { talk = talk; left = asked_most; asker = asker }) said
+  pub players : InTurn (IsPlayersTurn remaining site at) old first (full_asking talk asks) said
   pub last : Room
   pub others : InTurn (IsOthersTurn remaining site at) first new (full_room said.talk) last
   pub after_is : after ≡ last.talk
@@ -383,11 +432,12 @@ abbrev pub LeavesOthers : {S : Type 0} → {remaining : S → Option (List ℕ)}
     → {old new : List (Guest S)} → {talk after : Talk} → AreAttended remaining site at old new talk after → Type 0
 LeavesOthers {new = new} {after = after} attended = (new ≡ attended.first) × (after ≡ attended.said.talk)
 
--- It is known who asked for much last.
-abbrev pub KnowsAsker : {S : Type 0} → {remaining : S → Option (List ℕ)} → {site : Site} → {at : ℕ}
-    → {old new : List (Guest S)} → {talk after : Talk} → Option ℕ → Option ℕ
+-- It is known who asked for much last, and until when each player has paid for his acts.
+abbrev pub KnowsAsks : {S : Type 0} → {remaining : S → Option (List ℕ)} → {site : Site} → {at : ℕ}
+    → {old new : List (Guest S)} → {talk after : Talk} → Asks → Asks
     → AreAttended remaining site at old new talk after → Type 0
-KnowsAsker before behind attended = (attended.asker ≡ before) × (behind ≡ attended.said.asker)
+KnowsAsks before behind attended =
+    (attended.asks ≡ before) × (attended.said ≡ room_of attended.said.talk behind)
 
 -- ---- what goes
 
@@ -483,10 +533,11 @@ pub record IsCaughtUp {S : Type 0} (at : ℕ) (old new : Guest S) : Type 0 where
   pub are : AreNextTold at front old new
   pub at_line : AtLine old.waits.items → AtLine new.waits.items
 
--- One more may be told this answer, for which it waits first: then less waits for it, and one less may be told it.
+-- One more may be told this answer, for which it waits first: then less waits for it, and one less may be told it. All
+-- others are told nothing.
 abbrev pub IsAnsweredIf : {S : Type 0} → Bool → Guest S → Guest S → ℕ → ℕ → Type 0
 IsAnsweredIf true old new left after = (length new.waits.items < length old.waits.items) × (after ≡ left - 1)
-IsAnsweredIf false old new left after = after ≡ left
+IsAnsweredIf false old new left after = (new ≡ old) × (after ≡ left)
 
 abbrev pub IsAnsweredAt : {S : Type 0} → KeptAnswer → Guest S → Guest S → ℕ → ℕ → Type 0
 IsAnsweredAt answer old new left after =

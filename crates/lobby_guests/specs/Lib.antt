@@ -1,5 +1,6 @@
 pub mod Guests
 pub mod Origins
+pub mod Paces
 pub mod Place
 pub mod Counting
 pub mod Rounds

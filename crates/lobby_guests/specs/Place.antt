@@ -1,13 +1,13 @@
 -- A connection's place, as the desk has it, and who gives it up.
-use Rattle.std.specs.Prelude.{ℕ, ◌≡◌, ◌||◌, Bool, true, false, List, Option, None, Some}
+use Rattle.std.specs.Prelude.{ℕ, ◌≡◌, ◌||◌, Bool, true, false, Option}
 use Rattle.lobby_desk.specs.declared.desk.Desk.{Desk}
-use Rattle.lobby_desk.specs.Strangers.{player_at}
 use Rattle.lobby_talk.specs.Talking.{acts_at}
 use Rattle.lobby_guests.specs.declared.guest.Guest.{Guest}
 use Rattle.lobby_guests.specs.declared.place.Place.{Place}
 use Rattle.lobby_guests.specs.declared.place.Role.{Role}
 use Rattle.lobby_guests.specs.declared.place.Role.TheVariants.{Gone, Player, Newcomer}
 use Rattle.lobby_guests.specs.Guests.{IsAsBefore}
+pub use Rattle.lobby_guests.specs.Paces.{player_of}
 
 -- it is to be closed
 abbrev pub is_gone : Role → Bool
@@ -24,11 +24,6 @@ role_by false = Newcomer
 abbrev pub role_of : Desk → Bool → Option ℕ → Role
 role_of desk true number = Gone
 role_of desk false number = role_by (acts_at desk number)
-
--- the player for whom it acts
-abbrev pub player_of : Desk → Option ℕ → Option (List ℕ)
-player_of desk None = None
-player_of desk (Some c) = player_at desk c
 
 -- a connection's place; its time counts from when it came, and of one that acted for a player from the last turn in
 -- which it did

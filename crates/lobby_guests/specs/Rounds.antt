@@ -1,32 +1,65 @@
 -- Whose turn it is.
-use Rattle.std.specs.Prelude.{ℕ, ◌≡◌, ◌<◌, ◌+◌, ◌⊎◌, Bool, true, false}
+use Rattle.std.specs.Prelude.{ℕ, ◌≡◌, ◌<◌, ◌+◌, ◌⊎◌, Bool, true, false, Some}
 use Rattle.lobby_desk.specs.declared.desk.Desk.{Desk}
 use Rattle.lobby_web.specs.Browsing.{unread}
-use Rattle.lobby_talk.specs.Front.{has_act, has_brief}
+use Rattle.lobby_talk.specs.Front.{has_act, has_brief, may_be_act}
 use Rattle.lobby_guests.specs.declared.guest.Guest.{Guest}
 use Rattle.lobby_talk.specs.declared.talk.Talk.{Talk}
 use Rattle.lobby_guests.specs.declared.rounds.Asks.{Asks}
 use Rattle.lobby_guests.specs.declared.rounds.Strangers.{Strangers}
-use Rattle.lobby_guests.specs.Guests.{Asking, Room, IsAnswered}
-
--- what players may still ask in this turn
-abbrev pub room_of : Talk → Asks → Asking
-room_of talk asks = record { talk = talk; left = asks.round.left; asker = asks.asker }
+use Rattle.lobby_guests.specs.Paces.{paid_by, may_act, acts_from, PaysIf}
+use Rattle.lobby_guests.specs.Guests.{Room, IsAnswered, IsPaced, IsAhead, earlier}
+pub use Rattle.lobby_guests.specs.Guests.{room_of}
 
 -- the desk, and how many more who act for nobody are attended in this turn
 abbrev pub others_room : Talk → Strangers → Room
 others_room talk strangers = record { talk = talk; left = strangers.round.left + strangers.fresh }
 
--- One in whose front no act stands has a turn that is left, where it asks for little, or the last that may ask for much
--- is answered; or it has none.
-abbrev pub TakesTurn : {S : Type 0} → Bool → Desk → Guest S → Asks → Asks → Type 0
-TakesTurn true desk guest old new =
+-- Nobody pays for an act, nor does it change from when on the first may be taken that waits.
+pub record KeepsPaces (old new : Asks) : Type 0 where
+  pub paces : new.paces ≡ old.paces
+  pub next_act : new.next_act ≡ old.next_act
+
+-- Whether a player may act; where he may not, his next act is due when he may.
+abbrev pub LetsAct : Bool → ℕ → ℕ → Asks → Asks → Type 0
+LetsAct true player at old new = (may_act at (paid_by old.paces player) ≡ true) × (new ≡ old)
+LetsAct false player at old new =
+    (may_act at (paid_by old.paces player) ≡ false)
+    × (new ≡ record old { next_act = earlier old.next_act (Some (acts_from (paid_by old.paces player))) })
+
+-- He pays for an act, if it is one, and nothing else changes.
+pub record PaysAct (is_act : Bool) (player at : ℕ) (old new : Asks) : Type 0 where
+  pub pays : PaysIf is_act at player old.paces new.paces
+  pub round : new.round ≡ old.round
+  pub asker : new.asker ≡ old.asker
+  pub next_act : new.next_act ≡ old.next_act
+
+-- what asks for little takes a turn that is left, and what may ask for much the last, where the last such is answered
+abbrev pub TakesOne : {S : Type 0} → Desk → Guest S → Asks → Asks → Type 0
+TakesOne desk guest old new =
     (has_brief (unread guest.browser.stage) ≡ true) × (new.round.left < old.round.left) × (new.asker ≡ old.asker)
     ⊎ IsAnswered desk old.asker × (0 < old.round.left) × (new.round.left ≡ 0) × (new.asker ≡ guest.number)
+
+-- One in whose front no act stands has such a turn, or it has none.
+abbrev pub TakesTurn : {S : Type 0} → Bool → Desk → Guest S → Asks → Asks → Type 0
+TakesTurn true desk guest old new = KeepsPaces old new × TakesOne desk guest old new
 TakesTurn false desk guest old new = new ≡ old
 
 -- The same, and an act has its turn at once, and takes nobody's.
-abbrev pub IsToAsk : {S : Type 0} → Bool → Desk → Guest S → Asks → Asks → Type 0
-IsToAsk true desk guest old new =
+abbrev pub HasTurn : {S : Type 0} → Bool → Desk → Guest S → Asks → Asks → Type 0
+HasTurn true desk guest old new =
     (has_act (unread guest.browser.stage) ≡ true) × (new ≡ old) ⊎ TakesTurn true desk guest old new
-IsToAsk false desk guest old new = (has_act (unread guest.browser.stage) ≡ false) × (new ≡ old)
+HasTurn false desk guest old new = (has_act (unread guest.browser.stage) ≡ false) × (new ≡ old)
+
+abbrev pub ActsAtOnce : {S : Type 0} → Guest S → Asks → Asks → Type 0
+ActsAtOnce guest old new =
+    (has_act (unread guest.browser.stage) ≡ true) × (new.round.left ≡ old.round.left) × (new.asker ≡ old.asker)
+
+-- One is asked that has its turn, and whose player pays for it where it may be an act; or it waits.
+abbrev pub IsToAsk : {S : Type 0} → Bool → Talk → ℕ → Guest S → Asks → Asks → Type 0
+IsToAsk true talk at guest old new =
+    IsPaced at guest (room_of talk old) (room_of talk new)
+    × (ActsAtOnce guest old new ⊎ TakesOne talk.desk guest old new)
+IsToAsk false talk at guest old new =
+    IsAhead at guest guest (room_of talk old) (room_of talk new)
+    ⊎ (has_act (unread guest.browser.stage) ≡ false) × (new ≡ old)

@@ -3,7 +3,8 @@ ghost use Rattle.std.specs.Prelude.{ℕ, ◌≡◌, ◌≢◌, ◌<◌, ◌≤�
 ghost use Rattle.std.specs.Prelude.{IsTrue, OnOk};
 ghost use Rattle.lobby_desk.specs.Who.{IsReady, at_table};
 ghost use Rattle.lobby_guests.specs.Guests.{has_time, IsNewGuest, ComesFrom, IsRead, IsStill};
-ghost use Rattle.lobby_guests.specs.Guests.{IsHeardAs, IsHeard, IsAsked, is_untimely, MaySpeak, IsSaid, IsTold};
+ghost use Rattle.lobby_guests.specs.Guests.{IsHeardAs, IsHeard, IsAsked, is_untimely, MaySpeak, MayBeAsked, IsSaid};
+ghost use Rattle.lobby_guests.specs.Guests.{IsTold};
 ghost use Rattle.lobby_guests.specs.Guests.{NotesLogin, IsPutBehind, IsNextTold, IsCaughtUp, IsSameVisit};
 ghost use Rattle.lobby_guests.specs.Guests.{is_first, IsAnsweredAt};
 ghost use Rattle.lobby_guests.specs.Guests.{AreTold, IsPinged, IsAskedUnless, IsSettled, IsWritten};
@@ -19,14 +20,15 @@ ghost use Rattle.lobby_guests.specs.Guests.{IsLookedAfter, is_in_time, taken_unt
 ghost use Rattle.lobby_guests.specs.Guests.{due_at, ahead_at, is_unheard, IsPaid, owed_after, paid_for, since_after};
 ghost use Rattle.lobby_web.specs.Browsing.{WantsBytes, unread};
 ghost use Rattle.lobby_talk.specs.Counting.{refuses_login, counted_up, one_if, refuses, refusals_of};
-ghost use Rattle.lobby_guests.specs.Place.{role_by, role_of, player_of, place_of, Yields};
+ghost use Rattle.lobby_guests.specs.Paces.{player_of, payer_of};
+ghost use Rattle.lobby_guests.specs.Place.{role_of, place_of, Yields};
 
 use crate::origin::Origin;
-use crate::place::{Place, Role, is_gone};
+use crate::place::{Place, Role, is_gone, number_of};
 use crate::waiting::{Waiting, is_line};
 use lobby_desk::{Kind, Message};
 use lobby_talk::{
-    Asked, Coming, Counts, Gone, KeepsLinks, KeptAnswer, PIECE_ROOM, Talk, is_answer,
+    Asked, Coming, Counts, Gone, KeepsLinks, KeptAnswer, NOTHING_ASKED, PIECE_ROOM, Talk, is_answer,
     is_refused_login, say_to_desk, write_piece,
 };
 use lobby_web::{Browser, Heard, Site, Unsaid};
@@ -48,7 +50,7 @@ const BYTES_A_MILLISECOND: u64 = 200;
 
 const AHEAD: u64 = 1_000;
 
-/// The same for one that acts for a player.
+/// So many milliseconds that of one which acts for a player may run ahead before its next message is taken.
 const AHEAD_OF_PLAYERS: u64 = 10_000;
 
 /// So many bytes that come of one take a millisecond of its time, whatever they are, beside one for each time that it
@@ -57,9 +59,6 @@ const COME_A_MILLISECOND: u64 = 40;
 
 /// So many bytes of one are read in a turn at most: more than the head of a browser's request has.
 const READ_MOST: usize = 1_024;
-
-/// So many bytes are written at once to each player: more, to some of them in a turn.
-const LITTLE: usize = 2_048;
 
 /// One for which more messages wait than these is let go.
 const WAITING_MOST: usize = 1_024;
@@ -98,7 +97,7 @@ pub struct Guest<S> {
     /// Until when its time is taken by what came of it and by the answers that it was told; 0 where nothing was read
     /// yet, and once its socket opens.
     paid_until: u64,
-    /// The same by logins that were refused.
+    /// Until when its time is taken by logins that were refused.
     logins_until: u64,
     /// What it is told once the answer to `line G` is there that the first of these waits for.
     waits: Vec<Waiting>,
@@ -109,13 +108,6 @@ fn is_among(connections: &[u64], number: u64) -> bool
     ensures { result ≡ at_table connections.now number }
 {
     connections.iter().any(|one| *one == number)
-}
-
-// What a connection is to the lobby that acts for a player or not.
-fn role_by(acts: bool) -> Role
-    ensures { result ≡ role_by acts }
-{
-    if acts { Role::Player } else { Role::Newcomer }
 }
 
 impl<S> Guest<S> {
@@ -145,7 +137,7 @@ impl<S> Guest<S> {
             since: at,
             heard_at: at,
             is_asked: false,
-            asked: Asked::new(),
+            asked: NOTHING_ASKED,
             paid_until: 0,
             logins_until: 0,
             waits: Vec::new(alloc),
@@ -241,14 +233,13 @@ impl<S> Guest<S> {
         }
     }
 
-    /// Whether something waits to be written that its socket may take.
-    pub fn has_to_write(&self) -> bool {
-        self.can_write && !self.is_lost && !self.browser.out().is_empty()
-    }
-
-    /// Whether what is written to it next is short.
-    pub fn has_little_to_write(&self) -> bool {
-        self.browser.out().len() <= LITTLE
+    /// How many bytes wait to be written that its socket may take.
+    pub fn to_write(&self) -> usize {
+        if self.can_write && !self.is_lost {
+            self.browser.out().len()
+        } else {
+            0
+        }
     }
 
     /// Its socket may be ready.
@@ -280,9 +271,12 @@ impl<S> Guest<S> {
         ensures { result ≡ role_of talk.now.desk self.now.is_lost self.now.number }
     {
         if self.is_lost {
-            return Role::Gone;
+            Role::Gone
+        } else if talk.acts(self.number) {
+            Role::Player
+        } else {
+            Role::Newcomer
         }
-        role_by(talk.acts(self.number))
     }
 
     // The player for whom it acts.
@@ -291,7 +285,17 @@ impl<S> Guest<S> {
     {
         match self.number {
             None => None,
-            Some(number) => talk.player_at(number),
+            Some(number) => talk.desk().player_at(number),
+        }
+    }
+
+    /// Who pays for its acts, as a number: the player for whom it acts; 0 where it acts for nobody.
+    pub fn payer(&self, talk: &Talk) -> u128
+        ensures { result ≡ payer_of talk.now.desk self.now.number }
+    {
+        match self.player(talk) {
+            None => 0,
+            Some(name) => number_of(&name),
         }
     }
 
@@ -323,7 +327,7 @@ impl<S> Guest<S> {
     {
         match self.number {
             None => true,
-            Some(number) => talk.is_ready(number),
+            Some(number) => talk.desk().is_ready(number),
         }
     }
 
@@ -336,7 +340,9 @@ impl<S> Guest<S> {
 
     /// Whether its socket is to be asked what came next: something may have come, nothing waits for it, and the desk
     /// takes it.
-    pub fn may_be_asked(&self, talk: &Talk) -> bool {
+    pub fn may_be_asked(&self, talk: &Talk) -> bool
+        ensures { IsTrue result ↔ MayBeAsked talk.now.desk self.now }
+    {
         self.has_more && !self.is_lost && self.waits.is_empty() && self.may_speak(talk)
     }
 
@@ -447,16 +453,6 @@ impl<S> Guest<S> {
         self.paid_until = self.paid_until.max(at).saturating_add(millis);
     }
 
-    // Its time is taken by an answer of so many bytes.
-    fn pay(&mut self, at: u64, bytes: usize)
-        ensures still { IsStill self.old self.new }
-        ensures logins { self.new.logins_until ≡ self.old.logins_until }
-        ensures lost { self.new.is_lost ≡ self.old.is_lost }
-        ensures paid { self.new.paid_until ≡ taken_until at self.old.paid_until (bytes / 200) }
-    {
-        self.take_time(at, bytes as u64 / BYTES_A_MILLISECOND);
-    }
-
     // A login of it was refused, if this answer says so: that takes 12 seconds of its time for it. It is to be closed
     // where there were too many.
     fn note_login(&mut self, at: u64, text: &str)
@@ -478,7 +474,7 @@ impl<S> Guest<S> {
         self.be_told_text(text);
         counts.told(text, &mut self.asked);
         if is_answer(text) {
-            self.pay(counts.at, text.len());
+            self.take_time(counts.at, text.len() as u64 / BYTES_A_MILLISECOND);
         }
     }
 
@@ -580,7 +576,7 @@ impl<S> Guest<S> {
     {
         match self.waits.first() {
             None => false,
-            Some(one) => !one.is_line(),
+            Some(one) => !is_line(one.kind),
         }
     }
 
@@ -626,7 +622,7 @@ impl<S> Guest<S> {
     {
         match self.waits.first() {
             None => false,
-            Some(one) => one.is_line() && one.text.as_str() == answer.pgn(),
+            Some(one) => is_line(one.kind) && one.text.as_str() == answer.pgn(),
         }
     }
 
@@ -767,7 +763,7 @@ impl<S: Read + Write> Guest<S> {
         ensures written { IsWritten S.contents site.now self.old self.new }
         ensures waits { is_turn ≡ false → self.new ≡ self.old }
     {
-        if !is_turn || !self.has_to_write() {
+        if !is_turn || self.to_write() == 0 {
             return false;
         }
         match write_piece(&mut self.stream, self.browser.out()) {

@@ -1,7 +1,7 @@
 //! All browsers that are connected, by the names of their sockets, which grow.
 #![tactic(auto, using(lobby_talk::proofs::Each::zipped_none, lobby_talk::proofs::Each::zipped_vec))]
 
-ghost use Rattle.std.specs.Prelude.{ℕ, Bool, true, false, nat_lt, length, ◌<◌, ◌≡◌, ◌++◌, ◌∷◌, [], List, Option, OnOk};
+ghost use Rattle.std.specs.Prelude.{ℕ, Bool, true, false, nat_lt, length, ◌<◌, ◌≡◌, [], List, Option, IfOk, OnOk};
 ghost use Rattle.std.specs.Prelude.{Some, count_by, slice_index_or, slice_set, ◌≢◌};
 ghost use Rattle.std.specs.Option.{option_map};
 ghost use Rattle.std.specs.List.{AllZip, HoldsAt};
@@ -9,8 +9,8 @@ ghost use Rattle.lobby_guests.specs.Counting.{refusals_in, CountsLogins, CountsN
 ghost use Rattle.lobby_talk.specs.Counting.{counted_up};
 ghost use Rattle.lobby_guests.specs.Guests as guests;
 ghost use Rattle.lobby_guests.specs.Guests.{IsLeftAlone, IsSettled, IsServed, IsPlayersTurn, IsOthersTurn, InTurn};
-ghost use Rattle.lobby_guests.specs.Guests.{IsPlayerServed, IsAnswered, KnowsAsker, asked_most, Room, full_room};
-ghost use Rattle.lobby_guests.specs.Rounds.{room_of, others_room, TakesTurn, IsToAsk};
+ghost use Rattle.lobby_guests.specs.Guests.{IsPlayerServed, IsAnswered, KnowsAsks, full_asking, Room, full_room};
+ghost use Rattle.lobby_guests.specs.Rounds.{room_of, others_room, TakesTurn, HasTurn, IsToAsk};
 ghost use Rattle.lobby_guests.specs.Guests.{AreAttended, AreTold, AreDelivered, IsWritten, IsLookedAfter, IsClosedIf};
 ghost use Rattle.lobby_guests.specs.Guests.{AreClosed, AreParted, IsCaughtUp, AreAnswered, first_wanted, has_waiting};
 ghost use Rattle.lobby_guests.specs.Guests.{LeavesOthers, LeavesStranger};
@@ -20,17 +20,25 @@ ghost use Rattle.lobby_guests.specs.Waiting as waiting;
 ghost use Rattle.lobby_talk.specs.Replaying.{Replays};
 ghost use Rattle.lobby_talk.specs.declared.kept_answer.KeptAnswer.{KeptAnswer as KeptAnswerValue};
 ghost use Rattle.lobby_talk.specs.Talking.{IsTalkAsBefore, acts_at};
+ghost use Rattle.lobby_talk.specs.Front.{may_be_act};
 ghost use Rattle.lobby_talk.specs.Keeping.{AreKept};
+ghost use Rattle.lobby_web.specs.Browsing.{unread};
 
 use crate::guest::Guest;
 use crate::rounds::{
     ASKED_MOST, ATTENDED_MOST, Asks, Round, Rounds, Strangers, TOLD_MOST, WRITTEN_MOST,
 };
 use lobby_desk::Message;
-use lobby_talk::{Coming, Counts, KeepsLinks, KeptAnswer, PIECE_ROOM, Talk, has_act, has_brief};
+use lobby_talk::{
+    Coming, Counts, KeepsLinks, KeptAnswer, NOTHING_CAME, PIECE_ROOM, Talk, has_act, has_brief,
+    may_be_act,
+};
 use lobby_web::Site;
 use std::alloc::{AllocError, Global};
 use std::io::{Read, Write};
+
+/// So many bytes are written at once to each player: more, to some of them in a turn.
+const LITTLE: usize = 2_048;
 
 /// So many browsers are told an answer to `line G` in a turn at most: each may be long.
 const ANSWERED_MOST: usize = 1;
@@ -59,7 +67,7 @@ fn is_answered(asker: Option<u64>, talk: &Talk) -> bool
 {
     match asker {
         None => true,
-        Some(number) => !talk.acts(asker) || talk.is_ready(number),
+        Some(number) => !talk.acts(asker) || talk.desk().is_ready(number),
     }
 }
 
@@ -72,7 +80,7 @@ fn takes_turn<S>(guest: &Guest<S>, asks: &mut Asks, talk: &Talk) -> bool
         return false;
     }
     if has_brief(guest.unread()) {
-        asks.take_brief(guest.key());
+        asks.round.take(guest.key());
         return true;
     }
     let is_free = is_answered(asks.asker, talk);
@@ -82,12 +90,48 @@ fn takes_turn<S>(guest: &Guest<S>, asks: &mut Asks, talk: &Talk) -> bool
     is_free
 }
 
-// Whether a player's browser is asked what came next: where an act stands in front at once, and else where it is its
-// turn.
-fn is_to_ask<S>(guest: &Guest<S>, asks: &mut Asks, talk: &Talk) -> bool
-    ensures { IsToAsk result talk.now.desk guest.now asks.old asks.new }
+// Whether it is the turn of a player's browser: where an act stands in front at once, and else where one is left; then
+// it has it.
+fn has_turn<S>(guest: &Guest<S>, asks: &mut Asks, talk: &Talk) -> bool
+    ensures { HasTurn result talk.now.desk guest.now asks.old asks.new }
 {
     has_act(guest.unread()) || takes_turn(guest, asks, talk)
+}
+
+// The same where an act may stand in front: if its player may act, who pays for it if it may be taken.
+fn has_paid_turn<S>(
+    guest: &Guest<S>,
+    asks: &mut Asks,
+    talk: &Talk,
+    at: u64,
+) -> Result<bool, AllocError>
+    requires { may_be_act (unread guest.now.browser.stage) ≡ true }
+    ensures { IfOk result (λ is_asked. IsToAsk is_asked talk.now at guest.now asks.old asks.new) }
+{
+    let player = guest.payer(talk);
+    if !asks.may_act(player, at) {
+        return Ok(false);
+    }
+    if !has_turn(guest, asks, talk) {
+        return Ok(false);
+    }
+    asks.pay_if(guest.may_be_asked(talk), player, at)?;
+    Ok(true)
+}
+
+// Whether a player's browser is asked what came next: where it is its turn, and its player may act if it may be an act.
+fn is_to_ask<S>(
+    guest: &Guest<S>,
+    asks: &mut Asks,
+    talk: &Talk,
+    at: u64,
+) -> Result<bool, AllocError>
+    ensures { IfOk result (λ is_asked. IsToAsk is_asked talk.now at guest.now asks.old asks.new) }
+{
+    if may_be_act(guest.unread()) {
+        return has_paid_turn(guest, asks, talk, at);
+    }
+    Ok(has_turn(guest, asks, talk))
 }
 
 // Reads for a player's browser, and says to the desk what came next of it, where it is asked for that.
@@ -105,7 +149,8 @@ fn serve_player<S: Read + Write, K: KeepsLinks>(
         (room_of talk.new asks.new)) }
 {
     let has_read = guest.read_in(true, site, at, piece, coming);
-    if !is_to_ask(guest, asks, talk) {
+    let is_asked = is_to_ask(guest, asks, talk, at)?;
+    if !is_asked {
         return Ok(has_read);
     }
     let has_heard = guest.hear(talk, at, links, coming)?;
@@ -145,10 +190,11 @@ fn attend_players<S: Read + Write, K: KeepsLinks>(
     coming: &mut Coming,
 ) -> Result<bool, AllocError>
     ensures { OnOk result (InTurn (IsPlayersTurn S.remaining site.now at) guests.old.items guests.new.items
-        (record { talk = talk.old; left = asked_most; asker = asks.old.asker }) (room_of talk.new asks.new)) }
+        (full_asking talk.old asks.old) (room_of talk.new asks.new)) }
 {
     let mut any = false;
     asks.round.begin(ASKED_MOST);
+    asks.next_act = None;
     for guest in guests.iter_mut() {
         any |= attend_player(guest, asks, site, talk, at, links, piece, coming)?;
     }
@@ -239,10 +285,10 @@ pub fn attend_all<S: Read + Write, K: KeepsLinks>(
 ) -> Result<bool, AllocError>
     ensures attended { OnOk result ((attended : AreAttended S.remaining site.now at guests.old.items guests.new.items
         talk.old talk.new) × (is_short ≡ true → LeavesOthers attended)
-        × KnowsAsker rounds.old.asks.asker rounds.new.asks.asker attended) }
+        × KnowsAsks rounds.old.asks rounds.new.asks attended) }
     ensures logins { OnOk result (counts.new.logins_refused ≡ counts.old.logins_refused) }
 {
-    let mut coming = Coming::new();
+    let mut coming = NOTHING_CAME;
     let players = attend_players(
         guests,
         &mut rounds.asks,
@@ -377,22 +423,15 @@ pub fn deliver<S>(
     Ok(())
 }
 
-// Whether something is to be written to a browser that acts for a player.
-fn has_for_player<S>(guest: &Guest<S>, talk: &Talk) -> bool
-    ensures { acts_at talk.now.desk guest.now.number ≡ false → result ≡ false }
-{
-    guest.has_to_write() && talk.acts(guest.number())
-}
-
 // Whether something is to be written to a browser that acts for a player: at once where that is short, and else where
 // it is its turn; then it has it.
 fn has_players_turn<S>(guest: &Guest<S>, talk: &Talk, round: &mut Round) -> bool
     ensures { acts_at talk.now.desk guest.now.number ≡ false → result ≡ false }
 {
-    if !has_for_player(guest, talk) {
+    if guest.to_write() == 0 || !talk.acts(guest.number()) {
         return false;
     }
-    if guest.has_little_to_write() {
+    if guest.to_write() <= LITTLE {
         return true;
     }
     let is_turn = round.is_at(guest.key());
@@ -423,15 +462,6 @@ fn write_players<S: Read + Write>(
     any | can_more
 }
 
-// Whether it is the turn of a browser that something is written to it; then it has it.
-fn has_turn_to_write<S>(guest: &Guest<S>, talk: &Talk, round: &mut Round) -> bool {
-    let is_turn = round.is_at(guest.key()) && guest.has_to_write() && !talk.acts(guest.number());
-    if is_turn {
-        round.take(guest.key());
-    }
-    is_turn
-}
-
 // Writes to some of the others what they take. It tells whether that was anything, or more can be written.
 fn write_others<S: Read + Write>(
     guests: &mut Vec<Guest<S>>,
@@ -444,7 +474,11 @@ fn write_others<S: Read + Write>(
     let mut any = false;
     round.begin(WRITTEN_MOST);
     for guest in guests.iter_mut() {
-        let is_turn = has_turn_to_write(guest, talk, round);
+        let is_turn =
+            round.is_at(guest.key()) && guest.to_write() > 0 && !talk.acts(guest.number());
+        if is_turn {
+            round.take(guest.key());
+        }
         any |= guest.write_out(site, is_turn);
     }
     let can_more = round.end();
@@ -480,6 +514,7 @@ pub fn write_all<S: Read + Write>(
     ensures written { (first : List (Guest S)) × AllZip (IsWritten S.contents site.now) guests.old.items first
         × AllZip (IsWritten S.contents site.now) first guests.new.items }
     ensures short { is_short ≡ true → AllZip (LeavesStranger talk.now.desk) guests.old.items guests.new.items }
+    ensures asks { rounds.new.asks ≡ rounds.old.asks }
 {
     let players = write_players(guests, &mut rounds.told, site, talk);
     let others = write_unless(guests, is_short, site, talk, &mut rounds.written);
@@ -612,18 +647,6 @@ fn close_lost<S>(guests: &[Guest<S>], talk: &mut Talk)
     for guest in guests {
         close_if(guest.is_lost(), guest.number(), talk);
     }
-}
-
-/// A browser more, behind those who are there; false where memory is refused.
-pub fn push_guest<S: Drop>(guests: &mut Vec<Guest<S>>, guest: Guest<S>) -> bool
-    ensures pushed { result ≡ true → guests.new.items ≡ guests.old.items ++ guest ∷ [] }
-    ensures refused { result ≡ false → guests.new.items ≡ guests.old.items }
-{
-    // (what is refused is let go by a call: its parts are proved once then)
-    let pushed = guests.push(guest);
-    let is_pushed = pushed.is_ok();
-    drop(pushed);
-    is_pushed
 }
 
 /// Lets those go that are over or lost.

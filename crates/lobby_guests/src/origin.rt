@@ -63,7 +63,8 @@ impl Origin {
         origin_of(peer.to_canonical(), proxy)
     }
 
-    /// The same, once a request says that a proxy asks for this address: that counts of the trusted proxy alone.
+    /// Where a connection comes from once a request says that a proxy asks for this address: that counts of the trusted
+    /// proxy alone.
     pub fn told(self, forwarded: Option<IpAddr>) -> Origin
         ensures { IsToldOrigin forwarded self result }
     {

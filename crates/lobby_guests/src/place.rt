@@ -1,5 +1,6 @@
 //! A connection's place among all of them.
 ghost use Rattle.std.specs.Prelude.{◌≡◌};
+ghost use Rattle.lobby_guests.specs.Paces.{number_of};
 ghost use Rattle.lobby_guests.specs.Place.{is_gone};
 
 use player_name::Name;
@@ -32,4 +33,12 @@ pub fn is_gone(role: Role) -> bool
     ensures { result ≡ is_gone role }
 {
     matches!(role, Role::Gone)
+}
+
+/// A name as a number.
+#[tactic(auto, unfolding(crate::specs::Paces::number_of))]
+pub fn number_of(name: &Name) -> u128
+    ensures { result ≡ number_of name.now }
+{
+    u128::from_le_bytes(name.padded())
 }

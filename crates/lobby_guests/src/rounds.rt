@@ -1,21 +1,34 @@
 //! Whose turn it is where a turn of the lobby does not do what is to be done for all: a few in each, in a round.
-ghost use Rattle.std.specs.Prelude.{◌≡◌, ◌<◌, ◌+◌, ◌&&◌, nat_lt, nat_le, true, false};
+ghost use Rattle.std.specs.Prelude.{ℕ, ◌≡◌, ◌<◌, ◌≤◌, ◌+◌, ◌-◌, ◌*◌, ◌^◌, ◌&&◌, nat_lt, nat_le, true, false, OnOk};
+ghost use Rattle.std.specs.Prelude.{List, length};
 ghost use Rattle.lobby_guests.specs.Guests.{others_most};
+ghost use Rattle.lobby_guests.specs.Paces.{paid_by, ActsAt, AreBetween};
+ghost use Rattle.lobby_guests.specs.Rounds.{KeepsPaces, LetsAct, PaysAct};
 
-/// So many of them are attended in a turn at most.
+use crate::guests::earlier;
+use std::alloc::{AllocError, Global};
+use std::collections::BTreeMap;
+
+/// So many who act for nobody are attended in a turn at most.
 pub const ATTENDED_MOST: usize = 8;
 
-/// Of these so many at most of whom nothing was heard yet, out of the round: who is about to show a token is heard soon
-/// then, whatever the others do.
+/// Of those who are attended in a turn so many at most of whom nothing was heard yet, out of the round: who is about to
+/// show a token is heard soon then, whatever the others do.
 const FRESH_MOST: usize = 6;
 
 /// So many messages of players that are no acts are taken in a turn at most.
 pub const ASKED_MOST: usize = 8;
 
+/// An act takes so many milliseconds of a player's time, and so many of it may be taken ahead before his next one is
+/// taken.
+const AN_ACT: u64 = 50;
+
+const ACTS_AHEAD: u64 = 100;
+
 /// To so many players more than a little is written in a turn at most.
 pub const TOLD_MOST: usize = 8;
 
-/// To so many of them something is written in a turn at most.
+/// To so many who act for nobody something is written in a turn at most.
 pub const WRITTEN_MOST: usize = 16;
 
 /// A round, by the names of their sockets.
@@ -67,33 +80,66 @@ impl Round {
     }
 }
 
-/// Whose turn it is among players to ask what is no act.
-#[derive(Clone, Copy)]
+/// Whose turn it is among players to ask what is no act, and who may act.
+#[derive(Drop)]
 pub struct Asks {
     pub round: Round,
     /// The number at the desk of the connection that asked last.
     pub asker: Option<u64>,
+    /// Until when each player has paid for his acts, in milliseconds, over all connections that act for him: by the
+    /// number of his name.
+    pub paces: BTreeMap<u128, u64>,
+    /// From when on the first of the acts may be taken that wait since their players have paid too far ahead.
+    pub next_act: Option<u64>,
 }
 
 impl Asks {
-    /// A connection whose socket has this name asks for little.
-    pub fn take_brief(&mut self, key: usize)
-        requires { 0 < self.old.round.left }
-        ensures left { self.new.round.left < self.old.round.left }
-        ensures asker { self.new.asker ≡ self.old.asker }
-    {
-        self.round.take(key);
-    }
-
     /// A connection of this number, whose socket has this name, may ask for much: nobody behind it asks in this turn.
     pub fn take_long(&mut self, key: usize, number: Option<u64>)
         requires { 0 < self.old.round.left }
         ensures left { self.new.round.left ≡ 0 }
         ensures asker { self.new.asker ≡ number }
+        ensures paces { KeepsPaces self.old self.new }
     {
         self.round.take(key);
         self.round.left = 0;
         self.asker = number;
+    }
+
+    // Until when this player has paid.
+    fn paid_by(&self, player: u128) -> u64
+        ensures { result ≡ paid_by self.now.paces player }
+    {
+        match self.paces.get(&player) {
+            Some(until) => *until,
+            None => 0,
+        }
+    }
+
+    /// Whether this player may act at a moment, since he has not paid too far ahead; where he may not, it is known from
+    /// when on.
+    pub fn may_act(&mut self, player: u128, at: u64) -> bool
+        ensures { LetsAct result player at self.old self.new }
+    {
+        let until = self.paid_by(player);
+        if until.saturating_sub(at) <= ACTS_AHEAD {
+            return true;
+        }
+        let from = until.saturating_sub(ACTS_AHEAD);
+        self.next_act = earlier(self.next_act, Some(from));
+        false
+    }
+
+    /// This player pays for an act at a moment, if it is one. It fails where memory is refused.
+    pub fn pay_if(&mut self, is_act: bool, player: u128, at: u64) -> Result<(), AllocError>
+        ensures { OnOk result (PaysAct is_act player at self.old self.new) }
+    {
+        if !is_act {
+            return Ok(());
+        }
+        let until = self.paid_by(player).max(at).saturating_add(AN_ACT);
+        self.paces.insert(player, until)?;
+        Ok(())
     }
 }
 
@@ -134,7 +180,7 @@ impl Strangers {
 
 /// All rounds: of players who ask, and to whom much is written; and of those who act for nobody, and to whom of them
 /// something is written.
-#[derive(Clone, Copy)]
+#[derive(Drop)]
 pub struct Rounds {
     pub asks: Asks,
     pub told: Round,
@@ -145,15 +191,22 @@ pub struct Rounds {
 }
 
 impl Rounds {
-    /// Each begins with the first.
-    pub fn new() -> Rounds {
+    /// Each begins with the first, and nobody has paid for an act.
+    pub fn new(alloc: Global) -> Rounds
+        ensures { (player : ℕ) → paid_by result.asks.paces player ≡ 0 }
+    {
         let round = Round {
             from: 0,
             has_passed: false,
             left: 0,
         };
         Rounds {
-            asks: Asks { round, asker: None },
+            asks: Asks {
+                round,
+                asker: None,
+                paces: BTreeMap::new(alloc),
+                next_act: None,
+            },
             told: round,
             strangers: Strangers { round, fresh: 0 },
             written: round,
@@ -161,3 +214,10 @@ impl Rounds {
         }
     }
 }
+
+/// Whoever acts where he may and pays for it: between two moments he acts once in 50 milliseconds at most, and three
+/// times besides.
+pub fn law_of_paces()
+    ensures { (from to had until : ℕ) (moments : List ℕ) → to + 150 < 2 ^ 64 → AreBetween from to moments
+        → ActsAt had moments until → 50 * length moments ≤ to - from + 150 }
+{}

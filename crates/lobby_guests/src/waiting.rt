@@ -24,13 +24,6 @@ impl Waiting {
             text,
         })
     }
-
-    /// Whether its answer is not there yet.
-    pub fn is_line(&self) -> bool
-        ensures { result ≡ waiting.is_line self.now.kind }
-    {
-        is_line(self.kind)
-    }
 }
 
 /// Whether a message of this kind is not whole: it is told by an answer that is not there yet.

@@ -10,7 +10,7 @@ use Rattle.lobby_words.specs.declared.players.Player.{Player}
 use Rattle.std.proofs.lemmas.List.Elements.{All-nil}
 use Rattle.text_lines.specs.Lines.{HasNoFeed, is_feed}
 use Rattle.lobby_desk.specs.declared.telling.Message.{Message}
-use Rattle.lobby_desk.specs.Events.{DeskInput, Opened, Closed, Heard, Gone, Here, Renewed, MessageValue, message_values}
+use Rattle.lobby_desk.specs.Events.{DeskInput, Opened, Closed, Heard, Gone, Here, Renewed, Found, MessageValue, message_values}
 use Rattle.lobby_desk.specs.Lines.{ended, bytes_of}
 use Rattle.lobby_desk.specs.Who.{IsStep, Steps, view, players_now}
 use Rattle.lobby_desk.specs.History.{Step, comes, has_come, players_in, IsRun}
@@ -29,14 +29,14 @@ use Rattle.lobby_talk.specs.declared.link.Link.{Link}
 use Rattle.lobby_talk.specs.declared.talk.Talk.{Talk}
 use Rattle.lobby_talk.specs.declared.under_way.UnderWay.{UnderWay}
 use Rattle.lobby_talk.specs.Talking.{Saying, InTime, TooFast, WithLink, saying, Moves}
-use Rattle.lobby_guests.specs.Guests.{asked_most}
+use Rattle.lobby_guests.specs.Guests.{full_asking}
 use Rattle.lobby_guests.proofs.Attending.{players_pass, others_pass}
 use Rattle.lobby_guests.specs.Guests.{IsNewGuest, IsHeardAs, IsAsBefore, IsLeftAlone, IsSettled, IsAttended, InTurn, full_room, IsLookedAfter, AreTold, AreNextTold, IsCaughtUp, AreDelivered, IsWritten, IsClosedIf, AreClosed}
 use Rattle.lobby_talk.specs.Lines.{bytes_of as bytes_before, AreHeard}
 use Rattle.lobby_talk.specs.Held.{HoldsNoLine, IsKept}
 use Rattle.lobby_loop.specs.Turning.{BeginsHall, Admits, ServerComes, IsServerAsBefore, HearsServer, bytes_heard, PartsFromServer, TellsServer, HasTurned, texts_put, Comer, AreAdmitted, IsReached, IsLobbyTurn, is_look_time}
-use Rattle.lobby_loop.specs.Doing.{Gave, Spot, spot, DoesAt, all_tells, IsServed, AreServed, WereServed, AreAtLine, Before}
-use Rattle.lobby_loop.specs.Living.{Happening, Came, Woke, ServerCame, Turned, IsWoken, IsLife, written_in, taken_in, put_in, lost_if, presences_in, kept, sent_in, line_more, lines_heard, presence_more, presences_told, IsHeld, IsOther, HasNone, IsOneOf, AreKnown, IsOwn, AreOwn, numbers, NoLineWaits, IsRightLife, Passing, TurnAt, Rested, IsLobbyLife, Filed, Files, before_in, Changed, Relisted, Renews, Enrolled}
+use Rattle.lobby_loop.specs.Doing.{Gave, Spot, spot, DoesAt, all_tells, around, IsServed, AreServed, WereServed, AreAtLine, Before}
+use Rattle.lobby_loop.specs.Living.{Happening, Came, Woke, ServerCame, Turned, IsWoken, IsLife, left, written_in, taken_in, put_in, lost_if, presences_in, kept, sent_in, line_more, lines_heard, presence_more, presences_told, IsHeld, IsOther, HasNone, IsOneOf, AreKnown, IsOwn, AreOwn, numbers, NoLineWaits, IsRightLife, Passing, TurnAt, Rested, IsLobbyLife, Filed, Files, before_in, Changed, Relisted, Learned, Notes, Enrolled, Noticed}
 use Rattle.lobby_loop.proofs.Lined.{same_line, lines_by, lines_filter, lines_both, turn_lines}
 use Rattle.lobby_loop.proofs.Serving.{IsApart, ApartFrom, AreApart, served_before, served_read, served_looked, served_written, served_told, served_caught_up, gave_nothing, gave_again, gave_early, gave_opened, gave_text, all_served_on, all_served_zip, all_served_filter, all_served_more, all_came, served_new, ClosedIf, AllClosed, closed_if_on, all_were_on, all_were_out, all_were_came, all_let_go, came_more, site_more, all_filed, all_were_filed}
 
@@ -173,11 +173,6 @@ nobody_apart e nobody (Some c) = nobody c
 all_apart : (e : DeskInput) → IsOfNobody e → (ns : List (Option ℕ)) → AreApart ns e
 all_apart e nobody [] = tt
 all_apart e nobody (n ∷ ns) = (nobody_apart e nobody n, all_apart e nobody ns)
-
--- what was written to the server's connection, once it is lost or not
-abbrev left : Bool → List ℕ → List ℕ
-left true wrote = []
-left false wrote = wrote
 
 abbrev behind_loss : Bool → Traffic → Traffic
 behind_loss gone traffic =
@@ -516,7 +511,7 @@ said_behind d how text (n ∷ ns) (one, all) = (said_behind_one d how text n one
 module _ {S : Type 0} (remaining contents : S → Option (List ℕ)) (site : Site) (came : Before S) (players : List Player) (is_paused : Bool)
     (former : List (Guest S)) (traffic : Traffic) (out : List MessageValue) where
   abbrev Served : Option ℕ → Spot S → List Step → Type 0
-  Served n now steps = IsServed remaining contents site came steps out n now
+  Served n now steps = IsServed remaining contents (around site came) steps out n now
 
   abbrev All : List (Guest S) → List Step → Type 0
   All guests steps = AreServed remaining contents site came steps out guests
@@ -1051,8 +1046,8 @@ written_on contents front (Some link) after old new (next, is, hands, kept) = ha
 module _ {S : Type 0} (remaining contents : S → Option (List ℕ)) (site : Site) (came : Before S) (former : List (Guest S)) where
   -- each is served on, and has the number that it had
   kept_zip : (out more : List MessageValue) (R : Guest S → Guest S → Type 0) →
-      ((steps : List Step) (x y : Guest S) → R x y → IsServed remaining contents site came steps out x.number (spot x) →
-      IsServed remaining contents site came steps (out ++ more) y.number (spot y)) →
+      ((steps : List Step) (x y : Guest S) → R x y → IsServed remaining contents (around site came) steps out x.number (spot x) →
+      IsServed remaining contents (around site came) steps (out ++ more) y.number (spot y)) →
       ((x y : Guest S) → R x y → y.number ≡ x.number) → (xs ys : List (Guest S)) → AllZip R xs ys → (steps : List Step) →
       AreKept remaining contents site came former out xs steps → AreKept remaining contents site came former (out ++ more) ys steps
   kept_zip out more R each same xs ys all steps kept = record {
@@ -1066,8 +1061,8 @@ module _ {S : Type 0} (remaining contents : S → Option (List ℕ)) (site : Sit
 
   -- where nothing went out
   kept_same : (out : List MessageValue) (R : Guest S → Guest S → Type 0) →
-      ((steps : List Step) (x y : Guest S) → R x y → IsServed remaining contents site came steps out x.number (spot x) →
-      IsServed remaining contents site came steps out y.number (spot y)) →
+      ((steps : List Step) (x y : Guest S) → R x y → IsServed remaining contents (around site came) steps out x.number (spot x) →
+      IsServed remaining contents (around site came) steps out y.number (spot y)) →
       ((x y : Guest S) → R x y → y.number ≡ x.number) → (xs ys : List (Guest S)) → AllZip R xs ys → (steps : List Step) →
       AreKept remaining contents site came former out xs steps → AreKept remaining contents site came former out ys steps
   kept_same out R each same xs ys all steps kept = record {
@@ -1162,7 +1157,7 @@ module _ {S : Type 0} (remaining contents : S → Option (List ℕ)) (players : 
       }) so_far in
       let passes = t.takes.attends in
       let one = attended_pass at former base out site old.guests.items passes.first t.takes.parted passes.said.talk own two
-      (players_pass remaining site at old.guests.items passes.first (record { talk = t.takes.parted; left = asked_most; asker = passes.asker })
+      (players_pass remaining site at old.guests.items passes.first (full_asking t.takes.parted passes.asks)
       passes.said passes.players) in
       let said = subst (λ (u : Talk). IsTalkAt players is_paused base out
       (Two remaining contents site came players is_paused former base out [] t.takes.attended) u
@@ -1450,27 +1445,30 @@ module _ {S : Type 0} (remaining contents : S → Option (List ℕ)) (players : 
       subst (λ (n : ℕ). AreOwn n (numbers (former ++ new.guests.items))) (sym next)
       (subst (λ (gs : List (Guest S)). AreOwn old.talk.next (numbers (former ++ gs))) (sym (ap (λ gs. gs.items) guests)) own)
 
-  -- the players are others
-  relisted : (o : Outside) (came : Before S) (later : List Player) (old new : Hall S) → Renews later old new →
+  -- the desk takes an event that is of no browser and not of the server, as that the players are others
+  noted : (e : DeskInput) → ((o : Outside) (heard : List (List ℕ)) → behind e (traffic_of o heard) ≡ traffic_of o heard) →
+      ((bytes : List ℕ) → kept e bytes ≡ bytes) → IsOfNobody e → IsNoOpening e →
+      (o : Outside) (came : Before S) (old new : Hall S) → Notes e old new →
       IsHallAt remaining contents players is_paused o came old → IsHallAt remaining contents players is_paused o came new
-  relisted o came later old new renews so_far =
+  noted e same keeps nobody none o came old new notes so_far =
       let traffic = traffic_of o so_far.heard in
       let former = so_far.former in
       let out = so_far.out in
-      let kept = AreKept remaining contents old.site came former out old.guests.items in
+      let held = AreKept remaining contents old.site came former out old.guests.items in
       record {
         out = out;
         heard = so_far.heard;
-        cut = subst (λ s. AreCut o.taken so_far.heard s) (sym renews.server) so_far.cut;
+        cut = subst (λ s. AreCut o.taken so_far.heard s) (sym notes.server) so_far.cut;
         former = former;
         logged = so_far.logged;
-        talk = still_at traffic came former out old new renews.guests renews.site
-            (at_more players is_paused traffic out kept kept _ _ _ _ old.talk.desk new.talk.desk (Renewed later) (λ bytes. refl)
-            (goes_by remaining contents old.site came players is_paused former out (message_values old.talk.told.items) (Renewed later)
-            old.guests.items (λ c. tt) (λ c. refl)) so_far.talk renews.talk.steps);
-        own = still_own former old new renews.guests renews.talk.next so_far.own;
-        whole = subst (λ s. NoLineWaits s) (sym renews.server) so_far.whole;
-        lined = still_lined former old new renews.guests so_far.lined;
+        talk = still_at traffic came former out old new notes.guests notes.site
+            (subst (λ (t : Traffic). IsAt players is_paused t out held new.talk.desk new.talk.wire.items (message_values new.talk.told.items)) (same o so_far.heard)
+            (at_more players is_paused traffic out held held _ _ _ _ old.talk.desk new.talk.desk e keeps
+            (goes_by remaining contents old.site came players is_paused former out (message_values old.talk.told.items) e
+            old.guests.items nobody none) so_far.talk notes.talk.steps));
+        own = still_own former old new notes.guests notes.talk.next so_far.own;
+        whole = subst (λ s. NoLineWaits s) (sym notes.server) so_far.whole;
+        lined = still_lined former old new notes.guests so_far.lined;
       }
 
   -- (no line is held of a connection that begins)
@@ -1499,12 +1497,6 @@ module _ {S : Type 0} (remaining contents : S → Option (List ℕ)) (players : 
         whole = subst (λ s. NoLineWaits s) (sym comes.server) (begun_whole comes.link comes.held);
         lined = still_lined former old new comes.guests so_far.lined;
       }
-
-  turned_by : (past : List (Happening S)) (at : ℕ) (taken : List ℕ) (gone : Bool) (put : List (List ℕ)) (front : List ℕ) (now : Hall S) →
-      IsHallAt remaining contents players is_paused (behind_turn taken gone put front (outside_in past)) (before_in past) now →
-      IsHallAt remaining contents players is_paused (outside_in (Turned at taken gone put front ∷ past)) (before_in past) now
-  turned_by past at taken true put front now so = so
-  turned_by past at taken false put front now so = so
 
   begun_at : (site : Site) (now : Hall S) → BeginsHall site players is_paused now →
       IsHallAt remaining contents players is_paused (record { wrote = []; taken = []; presences = []; put = [] }) (record { streams = []; sites = [] }) now
@@ -1541,19 +1533,22 @@ module _ {S : Type 0} (remaining contents : S → Option (List ℕ)) (players : 
       subst (λ (s : Site). IsHallAt remaining contents players is_paused (outside_in past) (site_more s (before_in past)) now) (sym is)
       (filed (outside_in past) (before_in past) path file before now happens (life_at past before life))
   life_at (Relisted later ∷ past) now (before, life, happens) =
-      relisted (outside_in past) (before_in past) later before now happens (life_at past before life)
+      noted (Renewed later) (λ o heard. refl) (λ bytes. refl) (λ c. tt) (λ c. refl) (outside_in past) (before_in past) before now happens
+      (life_at past before life)
+  life_at (Learned finding ∷ past) now (before, life, happens) =
+      noted (Found finding) (λ o heard. refl) (λ bytes. refl) (λ c. tt) (λ c. refl) (outside_in past) (before_in past) before now happens
+      (life_at past before life)
   life_at (ServerCame stream ∷ past) now (before, life, happens) =
       server_came (outside_in past) (before_in past) stream before now happens (life_at past before life)
-  life_at (Turned at taken gone put front ∷ past) now (before, life, happens) =
+  life_at (Turned turn ∷ past) now (before, life, happens) =
       let o = outside_in past in
       let came = before_in past in
       let t = happens.turned in
-      turned_by past at taken gone put front now
-      (subst (λ (f : List ℕ). IsHallAt remaining contents players is_paused (behind_turn taken gone put f o) came now) happens.front_is
-      (subst (λ (p : List (List ℕ)). IsHallAt remaining contents players is_paused (behind_turn taken gone p t.hands.front o) came now) happens.put_is
-      (subst (λ (g : Bool). IsHallAt remaining contents players is_paused (behind_turn taken g (texts_put t) t.hands.front o) came now) happens.gone
+      subst (λ (f : List ℕ). IsHallAt remaining contents players is_paused (behind_turn turn.taken turn.is_gone turn.put f o) came now) happens.front_is
+      (subst (λ (p : List (List ℕ)). IsHallAt remaining contents players is_paused (behind_turn turn.taken turn.is_gone p t.hands.front o) came now) happens.put_is
+      (subst (λ (g : Bool). IsHallAt remaining contents players is_paused (behind_turn turn.taken g (texts_put t) t.hands.front o) came now) happens.gone
       (subst (λ (bytes : List ℕ). IsHallAt remaining contents players is_paused (behind_turn bytes t.takes.is_gone (texts_put t) t.hands.front o) came now)
-      happens.taken_is (turned_on remaining contents players is_paused came o at before now t (life_at past before life))))))
+      happens.taken_is (turned_on remaining contents players is_paused came o turn.at before now t (life_at past before life)))))
 
   pub life_right : (past : List (Happening S)) (now : Hall S) → IsLife remaining contents players is_paused past now →
       IsRightLife remaining contents players is_paused past now
@@ -1606,8 +1601,14 @@ module _ {S : Type 0} (remaining contents : S → Option (List ℕ)) (players : 
   turned_life at old new turn so_far =
       let so = welcomed_life at turn.comers turn.reached turn.welcomed turn.welcomes
       (reached_life old turn.reached turn.reaches so_far) in (
-        Turned at (bytes_heard remaining turn.welcomed.server turn.turns.takes.server_heard turn.welcomed.talk turn.turns.takes.heard
-            turn.turns.takes.hears) turn.turns.takes.is_gone (texts_put turn.turns) turn.turns.hands.front ∷ so.0,
+        Turned (record {
+          at = at;
+          taken = bytes_heard remaining turn.welcomed.server turn.turns.takes.server_heard turn.welcomed.talk turn.turns.takes.heard
+              turn.turns.takes.hears;
+          is_gone = turn.turns.takes.is_gone;
+          put = texts_put turn.turns;
+          front = turn.turns.hands.front;
+        }) ∷ so.0,
         (turn.welcomed, so.1, record { turned = turn.turns; taken_is = refl; gone = refl; put_is = refl; front_is = refl }),
       )
 
@@ -1620,6 +1621,9 @@ module _ {S : Type 0} (remaining contents : S → Option (List ℕ)) (players : 
   lobby_life (Enrolled later ∷ passed) now (before, life, renews) =
       let so = lobby_life passed before life in
       (Relisted later ∷ so.0, (before, so.1, renews))
+  lobby_life (Noticed finding ∷ passed) now (before, life, finds) =
+      let so = lobby_life passed before life in
+      (Learned finding ∷ so.0, (before, so.1, finds))
   lobby_life (Rested ∷ passed) now (before, life, wakes) =
       let so = lobby_life passed before life in
       (Woke ∷ so.0, (before, so.1, wakes))

@@ -8,7 +8,7 @@ use Rattle.std.proofs.lemmas.Bool.{eq-eqb, ne_eqb, cases_Bool, false≢true}
 use Rattle.websocket.specs.Content.{text as Text, ping as Ping}
 use Rattle.lobby_desk.specs.declared.telling.Message.{Message}
 use Rattle.lobby_desk.specs.declared.desk.Desk.{Desk}
-use Rattle.lobby_desk.specs.Events.{DeskInput, Opened, Closed, Said, Hurried, Heard, ServerTurned, Renewed, Linked, MessageValue, message_value, message_values}
+use Rattle.lobby_desk.specs.Events.{DeskInput, Opened, Closed, Said, Hurried, Heard, ServerTurned, Renewed, Linked, Found, MessageValue, message_value, message_values}
 use Rattle.lobby_desk.specs.Who.{at_table}
 use Rattle.lobby_desk.specs.History.{Step, comes, has_come}
 use Rattle.lobby_web.specs.declared.browser.Browser.{Browser}
@@ -27,7 +27,7 @@ use Rattle.lobby_talk.specs.Talking.{Saying, InTime, TooFast, WithLink, saying}
 use Rattle.lobby_talk.specs.Counting.{is_for}
 use Rattle.lobby_guests.specs.Guests.{IsNewGuest, IsAsBefore, IsRead, IsSaid, IsPassedOn, IsGiven, IsGivenIf, AreTold, IsNextTold, AreNextTold, IsCaughtUp, IsWritten, IsLookedAfter}
 use Rattle.lobby_loop.specs.Living.{numbers}
-use Rattle.lobby_loop.specs.Doing.{Doing, Took, Tried, Gave, WasTold, Wrote, Spot, spot, DoesAt, HasDone, IsAt, AreAt, IsAmong, Before, has_opened, texts_more, texts_given, texts_told, AreLate, message_of, messages_of, IsSaidAs, IsSaidBy, all_tells, told_for, is_opening, before_opening, IsToldAs, IsWaitingAs, IsToldOf, IsToldBy, IsServed, WasClosed, WereServed, AreServed}
+use Rattle.lobby_loop.specs.Doing.{Doing, Took, Tried, Gave, WasTold, Wrote, Spot, spot, DoesAt, HasDone, IsAt, AreAt, IsAmong, Before, has_opened, texts_more, texts_given, texts_told, AreLate, message_of, messages_of, IsSaidAs, IsSaidBy, all_tells, told_for, is_opening, before_opening, IsToldAs, IsWaitingAs, IsToldOf, IsToldBy, around, IsServed, WasClosed, WereServed, AreServed}
 
 -- ---- events of other connections
 
@@ -57,6 +57,7 @@ message_apart c (Linked d text players token) before apart =
 message_apart c (Renewed players) before apart = refl
 message_apart c (Heard line) before apart = refl
 message_apart c (ServerTurned is_here) before apart = refl
+message_apart c (Found finding) before apart = refl
 
 opening_apart : (c : ℕ) (e : DeskInput) → IsApart c e → is_opening c e ≡ false
 opening_apart c (Opened d) apart = ne_eqb d c apart
@@ -67,6 +68,7 @@ opening_apart c (Linked d text players token) apart = refl
 opening_apart c (Renewed players) apart = refl
 opening_apart c (Heard line) apart = refl
 opening_apart c (ServerTurned is_here) apart = refl
+opening_apart c (Found finding) apart = refl
 
 -- who has come has come, whatever follows
 come_on : (b rest : Bool) → rest ≡ true → (b || rest) ≡ true
@@ -354,7 +356,7 @@ site_more site came = record { streams = came.streams; sites = site ∷ came.sit
 
 module _ {S : Type 0} (remaining contents : S → Option (List ℕ)) (site : Site) (came : Before S) where
   abbrev Served : List Step → List MessageValue → Option ℕ → Spot S → Type 0
-  Served steps out number now = IsServed remaining contents site came steps out number now
+  Served steps out number now = IsServed remaining contents (around site came) steps out number now
 
   done_more : (steps : List Step) (out : List MessageValue) (n : Option ℕ) (d : Doing) (a b : Spot S) → b.waits ≡ a.waits →
       ((past : List Doing) → IsQuiet d past) → IsAt site d → DoesAt remaining contents d a b → Served steps out n a → Served steps out n b
@@ -733,8 +735,8 @@ module _ {S : Type 0} (remaining contents : S → Option (List ℕ)) (site : Sit
 -- ---- what holds of each holds of all
 
 module _ {S : Type 0} (remaining contents : S → Option (List ℕ)) (site new : Site) (came later : Before S) (steps : List Step)
-    (each : (out : List MessageValue) (n : Option ℕ) (now : Spot S) → IsServed remaining contents site came steps out n now →
-    IsServed remaining contents new later steps out n now) where
+    (each : (out : List MessageValue) (n : Option ℕ) (now : Spot S) → IsServed remaining contents (around site came) steps out n now →
+    IsServed remaining contents (around new later) steps out n now) where
   all_so : (out : List MessageValue) (guests : List (Guest S)) → AreServed remaining contents site came steps out guests →
       AreServed remaining contents new later steps out guests
   all_so out [] were = tt
@@ -765,8 +767,8 @@ module _ {S : Type 0} (remaining contents : S → Option (List ℕ)) (site : Sit
   -- of another site, or among others that came, where that is so
   served_among : (new : Site) (later : Before S) → ((stream : S) → IsAmong stream came.streams → IsAmong stream later.streams) →
       ((past : List Doing) → AreAt site came.sites past → AreAt new later.sites past) → (steps : List Step) (out : List MessageValue)
-      (n : Option ℕ) (now : Spot S) → IsServed remaining contents site came steps out n now →
-      IsServed remaining contents new later steps out n now
+      (n : Option ℕ) (now : Spot S) → IsServed remaining contents (around site came) steps out n now →
+      IsServed remaining contents (around new later) steps out n now
   served_among new later among sites steps out n now was = record {
     first = was.first;
     new = was.new;
@@ -781,7 +783,7 @@ module _ {S : Type 0} (remaining contents : S → Option (List ℕ)) (site : Sit
 
   -- one more stream by which a browser came
   served_came : (stream : S) (steps : List Step) (out : List MessageValue) (n : Option ℕ) (now : Spot S) →
-      IsServed remaining contents site came steps out n now → IsServed remaining contents site (came_more stream came) steps out n now
+      IsServed remaining contents (around site came) steps out n now → IsServed remaining contents (around site (came_more stream came)) steps out n now
   served_came stream = served_among site (came_more stream came) (λ _ among. inr among) (λ _ sites. sites)
 
   pub all_came : (stream : S) (steps : List Step) (out : List MessageValue) (guests : List (Guest S)) →
@@ -790,7 +792,7 @@ module _ {S : Type 0} (remaining contents : S → Option (List ℕ)) (site : Sit
 
   -- another site is served
   served_filed : (new : Site) (steps : List Step) (out : List MessageValue) (n : Option ℕ) (now : Spot S) →
-      IsServed remaining contents site came steps out n now → IsServed remaining contents new (site_more site came) steps out n now
+      IsServed remaining contents (around site came) steps out n now → IsServed remaining contents (around new (site_more site came)) steps out n now
   served_filed new = served_among new (site_more site came) (λ _ among. among) (λ past sites. ([], past, refl, tt, sites))
 
   pub all_filed : (new : Site) (steps : List Step) (out : List MessageValue) (guests : List (Guest S)) →
@@ -798,9 +800,9 @@ module _ {S : Type 0} (remaining contents : S → Option (List ℕ)) (site : Sit
   all_filed new steps = all_so remaining contents site new came (site_more site came) steps (served_filed new steps)
 
   pub served_new : (stream : S) (steps : List Step) (out : List MessageValue) (guest : Guest S) → IsNewGuest stream guest →
-      IsServed remaining contents site (came_more stream came) steps out guest.number (spot guest)
+      IsServed remaining contents (around site (came_more stream came)) steps out guest.number (spot guest)
   served_new stream steps out guest is =
-      subst (λ (n : Option ℕ). IsServed remaining contents site (came_more stream came) steps out n (spot guest)) (sym is.number) (record {
+      subst (λ (n : Option ℕ). IsServed remaining contents (around site (came_more stream came)) steps out n (spot guest)) (sym is.number) (record {
         first = spot guest;
         new = is.new;
         among = inl is.stream_is;

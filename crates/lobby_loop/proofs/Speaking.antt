@@ -28,7 +28,7 @@ use Rattle.lobby_web.proofs.SayingLemmas.{uttered}
 use Rattle.lobby_web.proofs.ShutLemmas.{stays-shut, unsaid-shut}
 use Rattle.lobby_desk.specs.Events.{MessageValue}
 use Rattle.lobby_desk.specs.History.{Step}
-use Rattle.lobby_loop.specs.Doing.{Doing, Took, Tried, Gave, WasTold, Wrote, Spot, HasDone, Before, has_opened, texts_more, texts_given, texts_told, IsLate, AreLate, IsServed as IsGuestServed}
+use Rattle.lobby_loop.specs.Doing.{Doing, Took, Tried, Gave, WasTold, Wrote, Spot, HasDone, Before, around, has_opened, texts_more, texts_given, texts_told, IsLate, AreLate, IsServed as IsGuestServed}
 use Rattle.lobby_loop.specs.Speaking.{bytes_came, bytes_written, texts_said, in_order, AreAnsweredBy, IsSiteIn, IsSilent, IsByHttp, IsSwitched, Speaks}
 
 -- ---- one event more at a socket's end
@@ -512,7 +512,7 @@ speaks_at past At.Over stands = stands
 
 module _ {S : Type 0} (remaining contents : S → Option (List ℕ)) (site : Site) where
   pub served_speaks : (older : Before S) (steps : List Step) (out : List MessageValue) (number : Option ℕ) (now : Spot S)
-      (served : IsGuestServed remaining contents site older steps out number now) → Speaks served.past now.stage
+      (served : IsGuestServed remaining contents (around site older) steps out number now) → Speaks served.past now.stage
   served_speaks older steps out number now served =
       speaks_at served.past now.stage
       (stands_at remaining contents served.first served.new served.past now served.done served.late)

@@ -56,7 +56,7 @@ module _ {S : Type 0} where
 
   -- by what a hall judges is as it was
   pub judges_so : (hall : Hall S) → JudgesAsBefore hall hall
-  judges_so hall = record { come = refl; away = refl; look = refl; proxy = refl }
+  judges_so hall = record { come = refl; away = refl; look = refl; proxy = refl; asks = refl }
 
   judges_twice : (a b c : Hall S) → JudgesAsBefore a b → JudgesAsBefore b c → JudgesAsBefore a c
   judges_twice a b c one next = record {
@@ -64,6 +64,7 @@ module _ {S : Type 0} where
     away = next.away ∙ one.away;
     look = next.look ∙ one.look;
     proxy = next.proxy ∙ one.proxy;
+    asks = next.asks ∙ one.asks;
   }
 
   pub server_as_before : (server : Option (Link S)) → IsServerAsBefore server server
@@ -136,6 +137,7 @@ module _ {S : Type 0} where
         ∙ ap (λ gs. next_look (length gs.items == 0) b.look_at at) same.guests
         ∙ ap (λ (n : ℕ). next_look (length a.guests.items == 0) n at) same.judges.look;
     proxy = comes.proxy ∙ same.judges.proxy;
+    asks = comes.asks ∙ same.judges.asks;
   }
 
   -- a browser comes, or is turned away where that is refused, behind the one name that was given

@@ -215,18 +215,25 @@ pub record Before (S : Type 0) : Type 0 where
   pub streams : List S
   pub sites : List Site
 
+-- and that one
+pub record Around (S : Type 0) : Type 0 where
+  pub site : Site
+  pub came : Before S
+
+abbrev pub around : {S : Type 0} → Site → Before S → Around S
+around site came = record { site = site; came = came }
+
 -- A browser with this number, at this place: it came by one of these streams, with nothing done; and of all that was
 -- done since, while these sites were served, the desk has what it said, and it was told what went out for it, but what
 -- waits for it.
-pub record IsServed {S : Type 0} (remaining contents : S → Option (List ℕ)) (site : Site) (came : Before S)
-    (steps : List Step)
+pub record IsServed {S : Type 0} (remaining contents : S → Option (List ℕ)) (when : Around S) (steps : List Step)
     (out : List MessageValue) (number : Option ℕ) (now : Spot S) : Type 0 where
   pub first : Spot S
   pub new : IsNew first.stage
-  pub among : IsAmong first.stream came.streams
+  pub among : IsAmong first.stream when.came.streams
   pub past : List Doing
   pub done : HasDone remaining contents first past now
-  pub sites : AreAt site came.sites past
+  pub sites : AreAt when.site when.came.sites past
   pub late : AreLate past
   pub said : IsSaidBy steps number past
   pub told : IsToldBy steps out number past now.waits
@@ -236,7 +243,7 @@ abbrev pub AreServed : {S : Type 0} → (S → Option (List ℕ)) → (S → Opt
     → List (Guest S) → Type 0
 AreServed remaining contents site came steps out [] = Unit {0}
 AreServed remaining contents site came steps out (guest ∷ guests) =
-    IsServed remaining contents site came steps out guest.number (spot guest)
+    IsServed remaining contents (around site came) steps out guest.number (spot guest)
     × AreServed remaining contents site came steps out guests
 
 -- ---- a browser that was let go
@@ -257,13 +264,12 @@ WasClosed steps until (Some c) = IsClosedBehind steps until c
 
 -- A browser that had this number and stood at this place when it was let go. Until then it was served: it was told what
 -- had gone out for it, but what waited for it then; and all that the desk has of its number it has said.
-pub record WasServed {S : Type 0} (remaining contents : S → Option (List ℕ)) (site : Site) (came : Before S)
-    (steps : List Step)
+pub record WasServed {S : Type 0} (remaining contents : S → Option (List ℕ)) (when : Around S) (steps : List Step)
     (out : List MessageValue) (number : Option ℕ) (last : Spot S) : Type 0 where
   pub until : List MessageValue
   pub after : List MessageValue
   pub split : out ≡ until ++ after
-  pub served : IsServed remaining contents site came steps until number last
+  pub served : IsServed remaining contents when steps until number last
   pub closed : WasClosed steps until number
 
 abbrev pub WereServed : {S : Type 0} → (S → Option (List ℕ)) → (S → Option (List ℕ)) → Site → Before S → List Step
@@ -271,7 +277,7 @@ abbrev pub WereServed : {S : Type 0} → (S → Option (List ℕ)) → (S → Op
     → List (Guest S) → Type 0
 WereServed remaining contents site came steps out [] = Unit {0}
 WereServed remaining contents site came steps out (guest ∷ guests) =
-    WasServed remaining contents site came steps out guest.number (spot guest)
+    WasServed remaining contents (around site came) steps out guest.number (spot guest)
     × WereServed remaining contents site came steps out guests
 
 -- What waits for each of these waits behind an answer to `line G` that was not there yet.

@@ -3,7 +3,8 @@ use Rattle.std.specs.Prelude.{ℕ, ◌≡◌, ◌≢◌, ◌<◌, ◌⊎◌, Boo
 use Rattle.std.specs.List.{AllZip, AllByRecursion}
 use Rattle.text_lines.specs.Lines.{HasNoFeed}
 use Rattle.lobby_words.specs.declared.players.Player.{Player}
-use Rattle.lobby_desk.specs.Events.{DeskInput, Heard, ServerTurned, Renewed, MessageValue, message_values}
+use Rattle.lobby_players.specs.declared.halts.Finding.{Finding}
+use Rattle.lobby_desk.specs.Events.{DeskInput, Heard, ServerTurned, Renewed, Found, MessageValue, message_values}
 use Rattle.lobby_desk.specs.Lines.{bytes_of}
 use Rattle.lobby_desk.specs.Logging.{log_texts}
 use Rattle.lobby_desk.specs.Who.{view}
@@ -22,17 +23,26 @@ use Rattle.lobby_loop.specs.Turning.{BeginsHall, KeepsDoor, Admits, IsServerAsBe
 use Rattle.lobby_loop.specs.Turning.{bytes_heard, texts_put, IsLobbyTurn}
 use Rattle.lobby_loop.specs.Doing.{all_tells, AreServed, WereServed, AreAtLine, Before}
 
+-- A turn: its moment; the bytes that come of the server, and whether the connection to it is lost behind them; the
+-- texts that the log has behind that, and the bytes that are written to the server then.
+pub record Turn : Type 0 where
+  pub at : ℕ
+  pub taken : List ℕ
+  pub is_gone : Bool
+  pub put : List (List ℕ)
+  pub front : List ℕ
+
 -- What happens to a hall: a browser comes, sockets may be ready, the server is there, at a path another file is served
--- from now on, or none, in the place of what this site had, the players are these from now on, a turn. In a turn bytes
--- come of the server, then the connection to it may be lost; behind that the log has texts, and then bytes are written
--- to the server.
+-- from now on, or none, in the place of what this site had, the players are these from now on, it is found what halts
+-- games, a turn.
 pub data Happening (S : Type 0) : Type 0 where
   Came : (stream : S) → Happening S
   Woke : Happening S
   ServerCame : (stream : S) → Happening S
   Filed : (path : List ℕ) → (file : Option File) → (before : Site) → Happening S
   Relisted : (players : List Player) → Happening S
-  Turned : (at : ℕ) → (taken : List ℕ) → (is_gone : Bool) → (put : List (List ℕ)) → (front : List ℕ) → Happening S
+  Learned : (finding : Finding) → Happening S
+  Turned : (turn : Turn) → Happening S
 
 -- Sockets may be ready, and nothing else happens.
 pub record IsWoken {S : Type 0} (old new : Hall S) : Type 0 where
@@ -50,13 +60,20 @@ pub record Files {S : Type 0} (path : List ℕ) (file : Option File) (old new : 
   pub site : Changes path file old.site new.site
   pub door : KeepsDoor old new
 
--- The players are these from now on, and nothing else happens.
-pub record Renews {S : Type 0} (players : List Player) (old new : Hall S) : Type 0 where
+-- The desk takes this event, and nothing else happens.
+pub record Notes {S : Type 0} (event : DeskInput) (old new : Hall S) : Type 0 where
   pub guests : new.guests ≡ old.guests
-  pub talk : Moves old.talk (Renewed players) new.talk
+  pub talk : Moves old.talk event new.talk
   pub server : new.server ≡ old.server
   pub site : new.site ≡ old.site
   pub door : KeepsDoor old new
+
+-- The players are these from now on; it is found what halts games, or does so no more.
+abbrev pub Renews : {S : Type 0} → List Player → Hall S → Hall S → Type 0
+Renews players old new = Notes (Renewed players) old new
+
+abbrev pub Finds : {S : Type 0} → Finding → Hall S → Hall S → Type 0
+Finds finding old new = Notes (Found finding) old new
 
 -- The same files are served, and nothing happens.
 pub record KeepsFiles {S : Type 0} (old new : Hall S) : Type 0 where
@@ -66,16 +83,15 @@ pub record KeepsFiles {S : Type 0} (old new : Hall S) : Type 0 where
   pub site : IsSameSite old.site new.site
   pub door : KeepsDoor old new
 
--- a turn in which these bytes come of the server, the connection to it is lost or not, the log has these texts, and
--- these bytes are written to the server
-pub record TurnsBy {S : Type 0} (remaining contents : S → Option (List ℕ)) (at : ℕ) (taken : List ℕ) (is_gone : Bool)
-    (put : List (List ℕ)) (front : List ℕ) (old new : Hall S) : Type 0 where
-  pub turned : HasTurned remaining contents at old new
+-- the turn of a hall
+pub record TurnsBy {S : Type 0} (remaining contents : S → Option (List ℕ)) (turn : Turn)
+    (old new : Hall S) : Type 0 where
+  pub turned : HasTurned remaining contents turn.at old new
   pub taken_is : bytes_heard remaining old.server turned.takes.server_heard old.talk turned.takes.heard
-      turned.takes.hears ≡ taken
-  pub gone : turned.takes.is_gone ≡ is_gone
-  pub put_is : texts_put turned ≡ put
-  pub front_is : turned.hands.front ≡ front
+      turned.takes.hears ≡ turn.taken
+  pub gone : turned.takes.is_gone ≡ turn.is_gone
+  pub put_is : texts_put turned ≡ turn.put
+  pub front_is : turned.hands.front ≡ turn.front
 
 abbrev pub Happens : {S : Type 0} → (S → Option (List ℕ)) → (S → Option (List ℕ)) → Happening S → Hall S → Hall S
     → Type 0
@@ -84,8 +100,8 @@ Happens remaining contents Woke old new = IsWoken old new
 Happens remaining contents (ServerCame stream) old new = ServerComes stream old new
 Happens remaining contents (Filed path file before) old new = Files path file old new × (before ≡ old.site)
 Happens remaining contents (Relisted players) old new = Renews players old new
-Happens remaining contents (Turned at taken is_gone put front) old new =
-    TurnsBy remaining contents at taken is_gone put front old new
+Happens remaining contents (Learned finding) old new = Finds finding old new
+Happens remaining contents (Turned turn) old new = TurnsBy remaining contents turn old new
 
 -- a hall that begins with these players, with entries paused or not, and what happened to it, the newest first
 abbrev pub IsLife : {S : Type 0} → (S → Option (List ℕ)) → (S → Option (List ℕ)) → List Player → Bool
@@ -96,19 +112,23 @@ IsLife {S} remaining contents players is_paused (h ∷ past) now =
     (before : Hall S) × IsLife remaining contents players is_paused past before
     × Happens remaining contents h before now
 
+-- what was written to the server's connection, once it is lost or not
+abbrev pub left : Bool → List ℕ → List ℕ
+left true wrote = []
+left false wrote = wrote
+
 -- the bytes that were written to the server since its connection began
 abbrev pub written_in : {S : Type 0} → List (Happening S) → List ℕ
 written_in [] = []
 written_in (ServerCame stream ∷ past) = []
-written_in (Turned at taken true put front ∷ past) = front
-written_in (Turned at taken false put front ∷ past) = written_in past ++ front
+written_in (Turned turn ∷ past) = left turn.is_gone (written_in past) ++ turn.front
 written_in (_ ∷ past) = written_in past
 
 -- the bytes that came of the server since its connection began, also where that is lost by now
 abbrev pub taken_in : {S : Type 0} → List (Happening S) → List ℕ
 taken_in [] = []
 taken_in (ServerCame stream ∷ past) = []
-taken_in (Turned at taken is_gone put front ∷ past) = taken_in past ++ taken
+taken_in (Turned turn ∷ past) = taken_in past ++ turn.taken
 taken_in (_ ∷ past) = taken_in past
 
 -- that the server is there, and that its connection is lost, the newest first
@@ -119,7 +139,7 @@ lost_if false before = before
 abbrev pub presences_in : {S : Type 0} → List (Happening S) → List Bool
 presences_in [] = []
 presences_in (ServerCame stream ∷ past) = true ∷ presences_in past
-presences_in (Turned at taken is_gone put front ∷ past) = lost_if is_gone (presences_in past)
+presences_in (Turned turn ∷ past) = lost_if turn.is_gone (presences_in past)
 presences_in (_ ∷ past) = presences_in past
 
 -- all texts that the log has, in their order
@@ -129,8 +149,9 @@ put_in (Came stream ∷ past) = put_in past
 put_in (Woke ∷ past) = put_in past
 put_in (Filed path file before ∷ past) = put_in past
 put_in (Relisted players ∷ past) = put_in past
+put_in (Learned finding ∷ past) = put_in past
 put_in (ServerCame stream ∷ past) = put_in past
-put_in (Turned at taken is_gone put front ∷ past) = put_in past ++ put
+put_in (Turned turn ∷ past) = put_in past ++ turn.put
 
 -- the bytes of the lines that the desk had for the server since its connection began
 abbrev pub kept : DeskInput → List ℕ → List ℕ
@@ -203,8 +224,9 @@ streams_in (Came stream ∷ past) = stream ∷ streams_in past
 streams_in (Woke ∷ past) = streams_in past
 streams_in (Filed path file before ∷ past) = streams_in past
 streams_in (Relisted players ∷ past) = streams_in past
+streams_in (Learned finding ∷ past) = streams_in past
 streams_in (ServerCame stream ∷ past) = streams_in past
-streams_in (Turned at taken is_gone put front ∷ past) = streams_in past
+streams_in (Turned turn ∷ past) = streams_in past
 
 -- the sites that were served before
 abbrev pub sites_in : {S : Type 0} → List (Happening S) → List Site
@@ -213,8 +235,9 @@ sites_in (Came stream ∷ past) = sites_in past
 sites_in (Woke ∷ past) = sites_in past
 sites_in (Filed path file before ∷ past) = before ∷ sites_in past
 sites_in (Relisted players ∷ past) = sites_in past
+sites_in (Learned finding ∷ past) = sites_in past
 sites_in (ServerCame stream ∷ past) = sites_in past
-sites_in (Turned at taken is_gone put front ∷ past) = sites_in past
+sites_in (Turned turn ∷ past) = sites_in past
 
 abbrev pub before_in : {S : Type 0} → List (Happening S) → Before S
 before_in past = record { streams = streams_in past; sites = sites_in past }
@@ -260,10 +283,11 @@ pub record IsRightLife {S : Type 0} (remaining contents : S → Option (List ℕ
   pub lined : AreAtLine gone × AreAtLine now.guests.items
 
 -- Turns of a lobby, at these moments, and between them rests, in which sockets may become ready, and files that are
--- served from then on, or no more, and other players.
+-- served from then on, or no more, other players, and what is found that halts games.
 pub data Passing : Type 0 where
   TurnAt : (at : ℕ) → Passing
   Enrolled : (players : List Player) → Passing
+  Noticed : (finding : Finding) → Passing
   Changed : (path : List ℕ) → (file : Option File) → Passing
   Rested : Passing
 
@@ -281,3 +305,5 @@ IsLobbyLife {S} remaining contents players is_paused (Changed path file ∷ past
     (before : Hall S) × IsLobbyLife remaining contents players is_paused past before × Files path file before now
 IsLobbyLife {S} remaining contents players is_paused (Enrolled later ∷ past) now =
     (before : Hall S) × IsLobbyLife remaining contents players is_paused past before × Renews later before now
+IsLobbyLife {S} remaining contents players is_paused (Noticed finding ∷ past) now =
+    (before : Hall S) × IsLobbyLife remaining contents players is_paused past before × Finds finding before now

@@ -2,15 +2,14 @@
 use Rattle.std.specs.Prelude.{ℕ, ◌≡◌, ◌≤◌, ◌<◌, ◌-◌, ◌⊎◌, ◌==◌, ◌&&◌, Bool, true, false, List, [], ◌∷◌, Option}
 use Rattle.std.specs.Prelude.{None, Some, length, count_by, nat_le, nat_lt, max, min, if◌then◌else◌}
 use Rattle.std.specs.BTreeMap.{BTreeMap, get}
-use Rattle.std.specs.Int.{w128, from_le_bytes}
 use Rattle.std.specs.List.{AllZip}
 use Rattle.std.specs.Map.{count_at}
 use Rattle.std.specs.Ordering.{nat_cmp}
 use Rattle.std.specs.Str.{bytes_eq}
-use Rattle.player_name.specs.Name.{padded}
 use Rattle.lobby_guests.specs.declared.place.Place.{Place}
 use Rattle.lobby_guests.specs.declared.place.Role.{Role}
 use Rattle.lobby_guests.specs.declared.place.Role.TheVariants as roles
+pub use Rattle.lobby_guests.specs.Paces.{number_of}
 use Rattle.lobby_guests.specs.Place.{is_gone}
 use Rattle.lobby_loop.specs.declared.places.Class.{Class}
 use Rattle.lobby_loop.specs.declared.places.Class.TheVariants.{Gone, Players, Nameless, Aged, Own}
@@ -75,10 +74,7 @@ abbrev pub each_own : List Place → List Place → List Place
 each_own [] ps = ps
 each_own (q ∷ qs) ps = each_own qs (own_room q.player ps)
 
--- A name as a number, and that for no player more act than are told under his name's, but that 17 stand for any more.
-unfoldable pub number_of : List ℕ → ℕ
-number_of name = from_le_bytes w128 (padded name)
-
+-- For no player more act than are told under his name's number, but that 17 stand for any more.
 abbrev pub IsTalliedByName : BTreeMap ℕ ℕ → List Place → Type 0
 IsTalliedByName tally ps =
     (name : List ℕ) → min 17 (count_of None (Own name) ps) ≤ count_at (get nat_cmp tally) (number_of name)

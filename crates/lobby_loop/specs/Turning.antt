@@ -12,8 +12,10 @@ use Rattle.lobby_talk.specs.declared.link.Link.{Link}
 use Rattle.lobby_talk.specs.declared.talk.Talk.{Talk}
 use Rattle.lobby_talk.specs.Talking.{Begins, MovesAnew}
 use Rattle.lobby_guests.specs.Origins.{IsPlain, IsFrom}
+use Rattle.lobby_guests.specs.Paces.{paid_by}
 use Rattle.lobby_guests.specs.Guests.{IsNewGuest, ComesFrom, AreAttended, AreDelivered, IsWritten, IsLookedAfter}
 use Rattle.lobby_guests.specs.Guests.{AreParted, has_waiting, earlier, first_due, LeavesOthers, LeavesStranger}
+use Rattle.lobby_guests.specs.Guests.{KnowsAsks}
 use Rattle.lobby_talk.specs.Held.{TakesIn, HandsOn, IsKept}
 use Rattle.lobby_loop.specs.Seating.{AreSeatedIf}
 use Rattle.lobby_loop.specs.declared.hall.Hall.{Hall}
@@ -51,8 +53,8 @@ TellsServer {S} contents front (Some link) server old new =
     (after : Link S) × (server ≡ Some after) × HandsOn front (contents link.stream) (contents after.stream) old new
     × IsKept link after
 
--- Nobody is connected, nothing was said, and nobody's time counts from any moment but when he came. Entries are paused,
--- or not.
+-- Nobody is connected, nothing was said, nobody has paid for an act, and nobody's time counts from any moment but when
+-- he came. Entries are paused, or not.
 pub record BeginsHall {S : Type 0} (site : Site) (players : List Player) (is_paused : Bool)
     (now : Hall S) : Type 0 where
   pub site_is : now.site ≡ site
@@ -60,14 +62,17 @@ pub record BeginsHall {S : Type 0} (site : Site) (players : List Player) (is_pau
   pub guests : now.guests.items ≡ []
   pub server : now.server ≡ None
   pub away : now.away_at ≡ 0
+  pub unpaid : (player : ℕ) → paid_by now.rounds.asks.paces player ≡ 0
 
--- By what it judges who has a place is as before: whether somebody came since, when the server was away last, when it
--- looks next, and the proxy that it trusts.
+-- By what it judges who has a place, and who may ask and act, is as before: whether somebody came since, when the
+-- server was away last, when it looks next, and the proxy that it trusts; who asked for much last, and until when each
+-- player has paid for his acts.
 pub record JudgesAsBefore {S : Type 0} (old new : Hall S) : Type 0 where
   pub come : new.has_come ≡ old.has_come
   pub away : new.away_at ≡ old.away_at
   pub look : new.look_at ≡ old.look_at
   pub proxy : new.proxy ≡ old.proxy
+  pub asks : new.rounds.asks ≡ old.rounds.asks
 
 -- And the next socket has the name that it would have had.
 pub record KeepsDoor {S : Type 0} (old new : Hall S) : Type 0 where
@@ -117,6 +122,7 @@ pub record ComesIn {S : Type 0} (key : ℕ) (peer : IpAddr) (at : ℕ) (old new 
   pub away : new.away_at ≡ old.away_at
   pub look : new.look_at ≡ next_look (length old.guests.items == 0) old.look_at at
   pub proxy : new.proxy ≡ old.proxy
+  pub asks : new.rounds.asks ≡ old.rounds.asks
 
 -- Nobody comes, and he is counted who would have.
 pub record IsTurnedAway {S : Type 0} (old new : Hall S) : Type 0 where
@@ -184,6 +190,7 @@ pub record TakesAllIn {S : Type 0} (remaining : S → Option (List ℕ)) (at : �
   pub attended : List (Guest S)
   pub attends : AreAttended remaining old.site at old.guests.items attended parted new.talk
   pub others : is_short ≡ true → LeavesOthers attends
+  pub asks : KnowsAsks old.rounds.asks new.rounds.asks attends
   pub looked : List (Guest S)
   pub looks : AllZip (IsLookedAfter new.talk.desk (is_look_time at old) at) attended looked
   pub seats : AreSeatedIf (old.has_come || is_look_time at old) at new.away_at new.talk.desk looked new.guests.items
@@ -218,11 +225,12 @@ pub record HandsAllOut {S : Type 0} (contents : S → Option (List ℕ)) (at : �
   pub door : KeepsDoor old new
 
 -- the next moment behind one at which there is something to do though no socket is ready, where anybody is there:
--- somebody's next message is taken, or it is looked after who is silent
+-- somebody's next message is taken, or an act that waits since its player has paid too far ahead, or it is looked after
+-- who is silent
 abbrev pub next_moment : {S : Type 0} → ℕ → Hall S → Option ℕ
 next_moment at hall =
     if length hall.guests.items == 0 then None
-    else earlier (first_due at hall.guests.items) (Some hall.look_at)
+    else earlier (earlier (first_due at hall.guests.items) hall.rounds.asks.next_act) (Some hall.look_at)
 
 -- There is more to be done at once: an answer to `line G` is to be made, or to be told.
 abbrev pub has_more : {S : Type 0} → Hall S → Bool

@@ -5,7 +5,7 @@ ghost use Rattle.lobby_desk.specs.Events.{MessageValue};
 ghost use Rattle.lobby_desk.specs.History.{Step};
 ghost use Rattle.lobby_web.specs.declared.site.Site.{Site};
 ghost use Rattle.lobby_loop.specs.declared.hall.Hall.{Hall};
-ghost use Rattle.lobby_loop.specs.Doing.{Spot, Before, IsServed};
+ghost use Rattle.lobby_loop.specs.Doing.{Spot, Before, around, IsServed};
 ghost use Rattle.std.specs.List.{AllZip};
 ghost use Rattle.lobby_guests.specs.Guests.{StaysLost};
 ghost use Rattle.lobby_loop.specs.Turning.{HasTurned};
@@ -43,9 +43,9 @@ pub fn law_of_lobbies<S>()
 /// their order, all of them while its socket is open. Before that HTTP answers what came, and nothing is said.
 pub fn law_of_browsers<S>()
     ensures { (remaining contents : S → Option (List ℕ)) (site : Site) (came : Before S) (steps : List Step)
-        (out : List MessageValue)
-        (number : Option ℕ) (now : Spot S) → (served : IsServed remaining contents site came steps out number now) →
-        Speaks served.past now.stage }
+        (out : List MessageValue) (number : Option ℕ) (now : Spot S)
+        → (served : IsServed remaining contents (around site came) steps out number now)
+        → Speaks served.past now.stage }
 {}
 
 /// Whoever is to be closed once all that came in a turn was taken in, as one that has no place any more, is let go at

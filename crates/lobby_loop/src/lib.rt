@@ -17,8 +17,9 @@ mod places;
 mod seating;
 
 pub use act_log::{ActLog, Fault, NoActLog};
+pub use comers::Comers;
 pub use hall::Hall;
 pub use law::{law_of_browsers, law_of_halls, law_of_leaving, law_of_lobbies};
 pub use listener::{Acceptor, LobbyListener, Welcomed, welcome};
-pub use lobby::{Lobby, Turned};
+pub use lobby::{Beginning, Lobby, Turned};
 pub use lobby_talk::{ACTS, BOUNDS, Counts, KeepsLinks, NoLinks, Roll};

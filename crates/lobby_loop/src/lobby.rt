@@ -1,28 +1,30 @@
 //! The sockets of a lobby, and what wakes it.
-ghost use Rattle.std.specs.Prelude.{ℕ, ◌≡◌, ◌≤◌, true, false, List, [], None, Some, is_some, length, nat_lt};
+ghost use Rattle.std.specs.Prelude.{ℕ, ◌≡◌, ◌≤◌, true, false, List, [], None, Some, nat_lt};
 ghost use Rattle.std.specs.Prelude.{IfOk, OnOk, OnErr};
 ghost use Rattle.mio.specs.declared.net.stream.TcpStream.{TcpStream};
 ghost use Rattle.mio.specs.declared.net.uds.stream.UnixStream.{UnixStream};
 ghost use Rattle.either.specs.declared.Either.{Either};
-ghost use Rattle.lobby_desk.specs.Who.{watched_games};
 ghost use Rattle.lobby_guests.specs.Guests.{is_crowded};
 ghost use Rattle.either.specs.Either.{either};
 ghost use Rattle.lobby_loop.specs.Turning.{BeginsHall, Comer, AreAdmitted, IsReached, IsLobbyTurn, has_more, texts_put};
 ghost use Rattle.lobby_loop.specs.Turning.{unknown, short_after, left_at, held_after};
-ghost use Rattle.lobby_loop.specs.Living.{IsWoken, Files, KeepsFiles, Renews};
+ghost use Rattle.lobby_loop.specs.Living.{IsWoken, Files, KeepsFiles, Renews, Finds};
 ghost use Rattle.lobby_loop.specs.Comers.{seen, is_over};
 ghost use Rattle.lobby_loop.specs.Logging.{Logs};
 ghost use Rattle.lobby_loop.specs.Roll.{here_in};
 ghost use Rattle.lobby_talk.specs.Roll.{here_by, news};
+ghost use Rattle.lobby_talk.specs.Talking.{IsToldLast};
+ghost use Rattle.lobby_players.specs.Halts.{halted};
 ghost use Rattle.lobby_web.specs.Pages.{file_at};
 ghost use Rattle.lobby_loop.specs.declared.lobby.Turned.TheVariants.{Worked};
 
 use crate::act_log::{ActLog, Fault};
+use crate::comers::Comers;
 use crate::hall::Hall;
 use crate::listener::{LobbyAcceptor, LobbyListener, Welcomed, welcome};
-use lobby_desk::{Halts, Limits};
+use lobby_desk::{Finding, Halts, Limits};
 use lobby_guests::earlier;
-use lobby_talk::{Counts, KeepsLinks, Roll};
+use lobby_talk::{KeepsLinks, Roll};
 use lobby_web::{File, Site};
 use lobby_words::Player;
 use mio::{Events, Interest, Poll, Token};
@@ -84,10 +86,25 @@ pub struct Lobby {
     // Whether something else may have happened since the last turn: at the server, of a player, or that time passed.
     is_awake: bool,
     hall: Hall<Call>,
-    // Who was here when the log was told last.
-    roll: Roll,
     poll: Poll,
     events: Events,
+}
+
+/// What a lobby begins with.
+#[derive(Drop)]
+pub struct Beginning {
+    /// The keys of its tables' hashes.
+    pub keys: RandomState,
+    pub listener: LobbyListener,
+    /// The address of its server.
+    pub server: ServerAddress,
+    /// What is served.
+    pub site: Site,
+    pub players: Vec<Player>,
+    pub halts: Halts,
+    pub limits: Limits,
+    /// The address of the trusted proxy, if there is one.
+    pub proxy: Option<IpAddr>,
 }
 
 // The sockets that are watched, and what the last wait told of them.
@@ -157,25 +174,25 @@ fn has_listener(events: &Events) -> bool {
 }
 
 impl Lobby {
-    /// A lobby whose server is at this address, which begins with this halted, and has these limits, behind a trusted
-    /// proxy of this address, if there is one. The system's error where it cannot be watched.
-    pub fn new(
-        net: &impl Net,
-        alloc: Global,
-        keys: RandomState,
-        mut listener: LobbyListener,
-        server: ServerAddress,
-        site: Site,
-        players: Vec<Player>,
-        halts: Halts,
-        limits: Limits,
-        proxy: Option<IpAddr>,
-    ) -> io::Result<Lobby>
-        ensures begins { IfOk result (λ lobby. BeginsHall site players.items halts.is_paused lobby.hall) }
-        ensures halts { IfOk result (λ lobby. lobby.hall.talk.desk.halts ≡ halts) }
-        ensures limits { IfOk result (λ lobby. lobby.hall.talk.desk.limits ≡ limits) }
-        ensures proxy { IfOk result (λ lobby. lobby.hall.proxy ≡ proxy) }
+    /// A lobby that begins with this: its server is at that address, this is halted, it has these limits, and it is
+    /// behind that proxy. The system's error where it cannot be watched.
+    pub fn new(net: &impl Net, alloc: Global, beginning: Beginning) -> io::Result<Lobby>
+        ensures begins { IfOk result (λ lobby.
+            BeginsHall beginning.site beginning.players.items beginning.halts.is_paused lobby.hall) }
+        ensures halts { IfOk result (λ lobby. lobby.hall.talk.desk.halts ≡ beginning.halts) }
+        ensures limits { IfOk result (λ lobby. lobby.hall.talk.desk.limits ≡ beginning.limits) }
+        ensures proxy { IfOk result (λ lobby. lobby.hall.proxy ≡ beginning.proxy) }
     {
+        let Beginning {
+            keys,
+            mut listener,
+            server,
+            site,
+            players,
+            halts,
+            limits,
+            proxy,
+        } = beginning;
         let Watched { poll, events } = watch_listener(net, alloc, &mut listener)?;
         Ok(Lobby {
             listener,
@@ -189,58 +206,31 @@ impl Lobby {
             short_until: 0,
             is_awake: true,
             hall: Hall::new(alloc, keys, site, players, halts, limits, proxy),
-            roll: Roll::new(alloc),
             poll,
             events,
         })
     }
 
-    /// Whether the server is there.
-    pub fn has_server(&self) -> bool
-        ensures { result ≡ is_some self.now.hall.server }
+    /// All that are connected, to be asked.
+    pub fn hall(&self) -> &Hall<Call>
+        ensures { result.now ≡ self.now.hall }
     {
-        self.hall.has_server()
-    }
-
-    /// How many connections were turned away since it began; at most 2^64 - 1.
-    pub fn turned_away(&self) -> u64
-        ensures { result ≡ self.now.hall.turned_away }
-    {
-        self.hall.turned_away()
-    }
-
-    /// How many browsers are connected.
-    pub fn connections(&self) -> usize
-        ensures { result ≡ length self.now.hall.guests.items }
-    {
-        self.hall.len()
-    }
-
-    /// What was counted since it began.
-    pub fn counts(&self) -> &Counts
-        ensures { result.now ≡ self.now.hall.counts }
-    {
-        self.hall.counts()
-    }
-
-    /// The games that connections watch, each once for each connection that watches it.
-    pub fn watched_games(&self) -> Result<Vec<u32>, AllocError>
-        ensures { IfOk result (λ games. games.items ≡ watched_games self.now.hall.talk.desk) }
-    {
-        self.hall.watched_games()
+        &self.hall
     }
 
     /// From now on this file is served at its path, in the place of the one that was there, if any.
     pub fn put_file(&mut self, file: File) -> Result<(), AllocError>
         ensures put { OnOk result (Files file.path.items (Some file) self.old.hall self.new.hall) }
         ensures err { OnErr result (KeepsFiles self.old.hall self.new.hall) }
+        ensures full { self.new.hall.site.is_full ≡ self.old.hall.site.is_full }
     {
         self.hall.put_file(file)
     }
 
     /// From now on nothing is served at this path.
     pub fn take_off_file(&mut self, path: &[u8])
-        ensures { Files path.now None self.old.hall self.new.hall }
+        ensures off { Files path.now None self.old.hall self.new.hall }
+        ensures full { self.new.hall.site.is_full ≡ self.old.hall.site.is_full }
     {
         self.hall.take_off_file(path);
     }
@@ -248,14 +238,14 @@ impl Lobby {
     /// It is seen at a moment, in milliseconds, how many connections came in the second that goes: one begins where the
     /// last one is over. Once these are more than 2,200 who asks for games is told to come later, by 503, until it is
     /// over; all files stay as they are.
-    pub fn see_comers(&mut self, at: u64)
-        ensures comers { self.new.hall.comers ≡ seen self.old.hall.next_key at self.old.hall.comers }
-        ensures full { self.new.hall.site.is_full ≡ is_over self.old.hall.next_key self.new.hall.comers }
+    pub fn see_comers(&mut self, comers: &mut Comers, at: u64)
+        ensures comers { comers.new ≡ seen self.old.hall.next_key at comers.old }
+        ensures full { self.new.hall.site.is_full ≡ is_over self.old.hall.next_key comers.new }
         ensures files { (path : List ℕ) → Files path (file_at self.old.hall.site path) self.old.hall self.new.hall }
         ensures held { self.new.held_until ≡ self.old.held_until }
         ensures short { self.new.short_until ≡ self.old.short_until }
     {
-        self.hall.see_comers(at);
+        self.hall.see_comers(comers, at);
     }
 
     /// The players are these from now on. A connection acts for a player on just where these have him with the sum that
@@ -264,6 +254,13 @@ impl Lobby {
         ensures { Renews players.items self.old.hall self.new.hall }
     {
         self.hall.renew(players);
+    }
+
+    /// This is found beside the lobby: it holds from now on, and everybody is told in the next turn.
+    pub fn found(&mut self, finding: &Finding) -> Result<(), AllocError>
+        ensures { OnOk result (Finds finding.now self.old.hall self.new.hall) }
+    {
+        self.hall.found(finding)
     }
 
     // Where many wait to be heard, as who is about to show a token, who comes next waits at the listener, a second at
@@ -400,7 +397,8 @@ impl Lobby {
         ensures turned { OnOk result ((turn : IsLobbyTurn (either unknown unknown)
             (either unknown unknown) at self.old.hall self.new.hall)
             × (turn.turns.is_short ≡ nat_lt at self.old.short_until)
-            × Logs (L.logged log.old) (L.logged log.new) (texts_put turn.turns)) }
+            × Logs (L.logged log.old) (L.logged log.new) (texts_put turn.turns)
+            × IsToldLast (halted turn.turns.between.talk.desk.halts) (K.last_halts links.new)) }
         ensures short { OnOk result (self.new.short_until ≡ short_after self.old.short_until at) }
         ensures held { OnOk result (self.new.held_until
             ≡ held_after self.old.held_until (is_crowded self.old.hall.guests.items) at) }
@@ -415,17 +413,14 @@ impl Lobby {
         Ok(self.turned(has_reached | has_turned, at))
     }
 
-    /// Gives the log who came and went since it was told last, and whether the server did: so it has that behind each
-    /// turn behind which it is told. Where the log fails the lobby ends.
-    pub fn tell_roll<L: ActLog>(&mut self, log: &mut L) -> Result<(), Fault>
+    /// Gives the log who came and went since it was told by this roll, and whether the server did: so it has that
+    /// behind each turn behind which it is told. Where the log fails the lobby ends.
+    pub fn tell_roll<L: ActLog>(&self, roll: &mut Roll, log: &mut L) -> Result<(), Fault>
         ensures told { OnOk result (Logs (L.logged log.old) (L.logged log.new)
-            (news (here_by self.old.roll) (here_in self.old.hall))) }
-        ensures roll { OnOk result (here_by self.new.roll ≡ here_in self.old.hall) }
-        ensures hall { self.new.hall ≡ self.old.hall }
-        ensures held { self.new.held_until ≡ self.old.held_until }
-        ensures short { self.new.short_until ≡ self.old.short_until }
+            (news (here_by roll.old) (here_in self.now.hall))) }
+        ensures roll { OnOk result (here_by roll.new ≡ here_in self.now.hall) }
     {
-        self.hall.tell_roll(&mut self.roll, log)
+        self.hall.tell_roll(roll, log)
     }
 
     // The sockets that were ready are looked at in the next turn.

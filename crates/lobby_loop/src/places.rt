@@ -9,7 +9,7 @@ ghost use Rattle.lobby_loop.specs.Places.{make_room, room_for, each_room, in_tim
 ghost use Rattle.lobby_loop.specs.Places.{most_nameless, judged, IsOwned, IsFair, IsTallied};
 ghost use Rattle.lobby_loop.specs.Places.{number_of, IsTalliedByName};
 
-use lobby_guests::{Place, Role, is_gone};
+use lobby_guests::{Place, Role, is_gone, number_of};
 use player_name::Name;
 use std::alloc::{AllocError, Global};
 use std::collections::BTreeMap;
@@ -30,6 +30,7 @@ enum Class {
 // Who acts for nobody has so many milliseconds to show a token.
 const PATIENCE: u64 = 20_000;
 
+// So many nameless connections of one address may be there at most.
 const AN_ADDRESS_MOST: usize = 32;
 
 // So many connections act for one player at most.
@@ -42,6 +43,7 @@ fn most_nameless(players: usize) -> usize
     1_000usize.saturating_sub(players).min(600).max(40)
 }
 
+// Whether a connection is at this address, where one is named.
 fn is_at(place: &Place, address: Option<u64>) -> bool
     ensures { result ≡ is_at address place.now }
 {
@@ -52,7 +54,7 @@ fn is_at(place: &Place, address: Option<u64>) -> bool
     }
 }
 
-// Whether it acts for this player.
+// Whether a connection acts for this player.
 fn is_of(place: &Place, name: &Name) -> bool
     ensures { result ≡ is_of name.now place.now.player }
 {
@@ -62,6 +64,7 @@ fn is_of(place: &Place, name: &Name) -> bool
     }
 }
 
+// Whether a connection is of a class.
 fn is_in(place: &Place, class: &Class) -> bool
     ensures { result ≡ is_in class.now place.now }
 {
@@ -76,12 +79,14 @@ fn is_in(place: &Place, class: &Class) -> bool
     }
 }
 
+// Whether a connection is of a class, and at this address, where one is named.
 fn is_counted(place: &Place, address: Option<u64>, class: &Class) -> bool
     ensures { result ≡ counted address class.now place.now }
 {
     is_at(place, address) && is_in(place, class)
 }
 
+// How many connections are of a class, and at this address, where one is named.
 fn count(places: &[Place], address: Option<u64>, class: &Class) -> usize
     ensures { result ≡ count_by (counted address class.now) places.now }
 {
@@ -91,7 +96,7 @@ fn count(places: &[Place], address: Option<u64>, class: &Class) -> usize
         .count()
 }
 
-// The first of them, so many at most, are to be closed.
+// The first connections of a class, so many at most, are to be closed.
 fn leave(places: &mut [Place], address: Option<u64>, class: &Class, count: usize)
     ensures { places.new ≡ leave (counted address class.now) count places.old }
 {
@@ -181,7 +186,8 @@ fn room_for(
     }
 }
 
-// The same for each of them: an address is gone over once at most, and where more than 32 are of it.
+// Nameless connections at the address of each of these are to be closed, until as many are left there as may be: an
+// address is gone over once at most, and where more than 32 are of it.
 fn each_room(alloc: Global, places: &mut [Place], all: &[Place]) -> Result<(), AllocError>
     ensures { OnOk result (places.new ≡ each_room all.now places.old) }
 {
@@ -192,6 +198,7 @@ fn each_room(alloc: Global, places: &mut [Place], all: &[Place]) -> Result<(), A
     Ok(())
 }
 
+// Nameless connections whose time is over are to be closed.
 fn in_time(places: &mut [Place], at: u64, from: u64)
     ensures { places.new ≡ in_time at from places.old }
 {
@@ -208,14 +215,6 @@ fn own_room(places: &mut [Place], player: Option<Name>)
         let excess = count(places, None, &Class::Own(name)).saturating_sub(A_PLAYER_MOST);
         leave(places, None, &Class::Own(name), excess);
     }
-}
-
-// A name as a number.
-#[tactic(auto, unfolding(crate::specs::Places::number_of))]
-fn number_of(name: &Name) -> u128
-    ensures { result ≡ number_of name.now }
-{
-    u128::from_le_bytes(name.padded())
 }
 
 // One more is told where this one has a player.
@@ -245,7 +244,8 @@ fn tally_of_own(alloc: Global, places: &[Place]) -> Result<BTreeMap<u128, u64>, 
     Ok(tally)
 }
 
-// The same for the player of this one. Where no more are told than may be, they are not gone over.
+// Of those who act for the player of this one who came first are to be closed, until so many are left as may be. Where
+// no more are told than may be, they are not gone over.
 fn own_room_for(places: &mut [Place], tally: &BTreeMap<u128, u64>, place: &Place)
     requires { IsTalliedByName tally.now places.old }
     ensures room { places.new ≡ own_room place.now.player places.old }
@@ -258,7 +258,8 @@ fn own_room_for(places: &mut [Place], tally: &BTreeMap<u128, u64>, place: &Place
     }
 }
 
-// The same for the player of each: those of one are gone over only where more than 16 may act for him.
+// Of those who act for the player of one of these who came first are to be closed, until so many are left as may be:
+// they are gone over only where more than 16 may act for him.
 fn each_own(alloc: Global, places: &mut [Place], all: &[Place]) -> Result<(), AllocError>
     ensures { OnOk result (places.new ≡ each_own all.now places.old) }
 {

@@ -12,14 +12,14 @@ use lobby_words::{
 };
 use std::collections::BTreeMap;
 
-// Whether it is a pairing.
+// Whether a message is a pairing.
 fn is_pairing(text: &str) -> bool
     ensures { result ≡ spec.is_pairing text.now }
 {
     matches!(sort_of(text), Sort::Pair)
 }
 
-// Whether who acts so may offer this.
+// Whether who acts so may offer what a message says.
 fn may_offer(players: &[Player], who: &Identity, text: &str) -> bool
     ensures { result ≡ spec.may_offer players.now who.now text.now }
 {
@@ -31,7 +31,7 @@ fn may_offer(players: &[Player], who: &Identity, text: &str) -> bool
         && known_name(players, black_name(text)).is_some()
 }
 
-// Whether the message takes an offer of the other player's.
+// Whether a message takes an offer of the other player's.
 fn is_answered(
     offer: &Offer,
     visitors: &BTreeMap<u64, Visitor>,
@@ -44,7 +44,7 @@ fn is_answered(
     offer.text.as_str() == text && offer.by.as_str() == other && stands(offer, visitors, now)
 }
 
-// Whether it takes one of these.
+// Whether a message takes one of these offers of the other player's.
 fn takes_any(
     offers: &[Offer],
     visitors: &BTreeMap<u64, Visitor>,
@@ -60,7 +60,7 @@ fn takes_any(
         .any(|offer| is_answered(offer, visitors, other, text, now))
 }
 
-// Whether the two agree.
+// Whether the two players agree, by a message of one and the offers of the other.
 fn is_agreed(
     offers: &[Offer],
     visitors: &BTreeMap<u64, Visitor>,

@@ -30,7 +30,7 @@ pub fn is_party(name: &str, text: &str) -> bool
     as_name(text) == name || black_name(text) == name
 }
 
-/// The other one of the two.
+/// The other one of the two in a pairing.
 pub fn other_party<'a>(name: &str, text: &'a str) -> &'a str
     ensures { result.now ≡ spec.other_party name.now text.entry.now }
 {

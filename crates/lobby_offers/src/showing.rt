@@ -19,7 +19,7 @@ fn is_shown(offer: &Offer, visitors: &BTreeMap<u64, Visitor>, name: &str, now: u
     is_party(name, offer.text.as_str()) && stands(offer, visitors, now)
 }
 
-// How many he is told.
+// How many offers a player is told.
 fn count_shown(offers: &[Offer], visitors: &BTreeMap<u64, Visitor>, name: &str, now: u64) -> usize
     ensures { result ≡ length (filter (λ (o : Offer). spec.is_shown (who_in visitors.now) name.now now
         (spec.offered o)) offers.now) }

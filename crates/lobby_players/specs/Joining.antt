@@ -11,13 +11,14 @@ use Rattle.lobby_words.specs.declared.planning.Newcomer.{Newcomer}
 use Rattle.lobby_words.specs.declared.planning.Newcomer.TheVariants as newcomers
 use Rattle.lobby_words.specs.Words.{as_name, full_said, sort_of, is_player_sort}
 use Rattle.lobby_words.specs.Players.{is_named_like}
+use Rattle.lobby_words.specs.Plans.{adds}
 use Rattle.lobby_players.specs.declared.faults.JoinFault.{JoinFault}
 use Rattle.lobby_players.specs.declared.faults.JoinFault.TheVariants as faults
 use Rattle.lobby_players.specs.declared.faults.OrderFault.{OrderFault}
 use Rattle.lobby_players.specs.declared.faults.OrderFault.TheVariants as order_faults
 use Rattle.lobby_players.specs.File.{Entry, IsFileOf, entries_of, has_name, is_full_name}
 use Rattle.lobby_players.specs.Adding.{IsAddFault, added_text}
-use Rattle.lobby_players.specs.Relinking.{IsOfOthers, IsLinkFault}
+use Rattle.lobby_players.specs.Relinking.{IsFileRelinked, IsOfOthers, IsLinkFault}
 
 -- 1 to 16 letters, digits and `_`
 abbrev pub is_name : List ℕ → Bool
@@ -65,6 +66,16 @@ IsJoinFault known e text (faults.Add fault) = IsAddFault text e fault
 IsJoinFault known e text faults.OtherPlayers = IsOfOthers known text
 IsJoinFault known e text faults.NameTaken = IsSomebody e.name text
 IsJoinFault known e text faults.NoMemory = Unit {0}
+
+-- An order has been carried out in the file: the new text is the old one with the line of who is added behind all, with
+-- this full name and the sum of this token; or it is the old one but for the line of the player of the order.
+abbrev pub IsFileCarriedIf : Bool → Entry → (text new : List ℕ) → (before after : List Player) → Type 0
+IsFileCarriedIf true e text new before after = IsFileJoined e text new before after
+IsFileCarriedIf false e text new before after = IsFileRelinked e.name text new before after
+
+abbrev pub IsFileCarriedOut : Order → (full_name token text new : List ℕ) → (before after : List Player) → Type 0
+IsFileCarriedOut order full_name token text new before after =
+    IsFileCarriedIf (adds order.change) (entry_joined order.name full_name token) text new before after
 
 -- an order was not carried out, with this token and this full name of who is added
 abbrev pub IsOrderFault : List Player → Order → List ℕ → List ℕ → List ℕ → OrderFault → Type 0

@@ -1,4 +1,5 @@
 pub mod File
+pub mod Halts
 pub mod Faults
 pub mod Adding
 pub mod Relinking

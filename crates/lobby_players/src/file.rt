@@ -1,3 +1,4 @@
+//! Files that are read whole, and put whole in their own places.
 use anyhow::{Result, bail};
 use night_files::{OWNERS_MODE, folder_of, new_file};
 use std::alloc::Global;
@@ -82,7 +83,8 @@ pub fn put_file<R: Files>(rt: &R, alloc: Global, file: &str, text: &str) -> Resu
     put(rt, alloc, file, permissions, text)
 }
 
-/// The same, for its owner alone, whatever was there before: no symbolic link is followed.
+/// Puts a text in the place of a file's, as `put_file` does, for its owner alone, whatever was there before: no
+/// symbolic link is followed.
 pub fn put_own_file<R: Files>(rt: &R, alloc: Global, file: &str, text: &str) -> Result<()> {
     put(rt, alloc, file, Permissions::from_mode(OWNERS_MODE), text)
 }

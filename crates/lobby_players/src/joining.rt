@@ -4,7 +4,7 @@ ghost use Rattle.std.specs.Option.{option_copied};
 ghost use Rattle.std.specs.String.{string_bytes};
 ghost use Rattle.hex.specs.Hex.{encode_lower};
 ghost use Rattle.lobby_words.specs.Players.{IsCarriedOut, IsJoined, is_named_like};
-ghost use Rattle.lobby_players.specs.Joining.{IsFileJoined, IsJoinFault, IsOrderFault, entry_joined};
+ghost use Rattle.lobby_players.specs.Joining.{IsFileJoined, IsFileCarriedOut, IsJoinFault, IsOrderFault, entry_joined};
 ghost use Rattle.lobby_players.specs.Joining.{newcomer_of, newcomer_said};
 
 use crate::adding::{Addition, added};
@@ -106,7 +106,7 @@ pub fn joined(
 }
 
 /// The file of these players in which an order has been carried out, with this token and this full name of who is
-/// added. It fails just where `joined` or `relinked` does.
+/// added: all lines but the player's stand as and where they stood. It fails just where `joined` or `relinked` does.
 pub fn carried_out(
     alloc: Global,
     known: &[Player],
@@ -115,6 +115,8 @@ pub fn carried_out(
     full_name: &str,
     token: &[u8; 16],
 ) -> Result<ChangedFile, OrderFault>
+    ensures file { IfOk result (λ new. IsFileCarriedOut order.now full_name.now token.now text.now
+        (string_bytes new.text) known.now new.linked.players.items) }
     ensures players { IfOk result (λ new. IsCarriedOut order.now full_name.now
         (string_bytes new.linked.token) known.now new.linked.players.items) }
     ensures token { IfOk result (λ new. string_bytes new.linked.token ≡ encode_lower token.now) }

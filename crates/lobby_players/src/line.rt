@@ -116,7 +116,7 @@ fn is_seen(c: char) -> bool
     !is_among(HIDDEN.as_slice(), c) && (c == ' ' || !c.is_whitespace())
 }
 
-// Whether each character is.
+// Whether each character is seen, and leaves others as they are, or is the plain space.
 fn are_seen(text: &str) -> bool
     ensures { result ≡ list_all file.is_seen (chars text.now) }
 {

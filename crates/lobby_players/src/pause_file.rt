@@ -22,7 +22,7 @@ fn is_there<R: Files>(rt: &R, file: &str) -> Result<bool> {
     }
 }
 
-/// What is kept of that.
+/// Whether entries are paused, as a file keeps it.
 #[derive(Drop)]
 pub struct PauseFile<'a, R> {
     rt: &'a R,
@@ -31,8 +31,8 @@ pub struct PauseFile<'a, R> {
 }
 
 impl<'a, R: Files<File = File> + AllocGlobal + Eprint> PauseFile<'a, R> {
-    /// As it was kept beside this players' file; where they are paused that is told. It fails where the system does
-    /// not tell, or where something else than a file has its name.
+    /// Whether entries are paused, as it was kept beside this players' file; where they are paused that is told. It
+    /// fails where the system does not tell, or where something else than a file has its name.
     pub fn new(rt: &'a R, players: &str) -> Result<Self> {
         let file = format!(in rt.alloc(); "{players}.paused")?;
         let is_paused = is_there(rt, file.as_str())?;
@@ -46,14 +46,14 @@ impl<'a, R: Files<File = File> + AllocGlobal + Eprint> PauseFile<'a, R> {
         })
     }
 
-    /// Whether they are paused.
+    /// Whether entries are paused.
     pub fn is_paused(&self) -> bool
         ensures { result ≡ self.now.is_paused }
     {
         self.is_paused
     }
 
-    // Keeps it in the file.
+    // Keeps in the file whether entries are paused.
     fn put(&self, is_paused: bool) -> Result<()> {
         let file = self.file.as_str();
         if is_paused {
@@ -63,7 +63,8 @@ impl<'a, R: Files<File = File> + AllocGlobal + Eprint> PauseFile<'a, R> {
         }
     }
 
-    /// Keeps it, where it is another. It is on the disk then, or standard error tells that it is not.
+    /// Keeps whether entries are paused, where that is news. It is on the disk then, or standard error tells that it is
+    /// not.
     pub fn keep(&mut self, is_paused: bool)
         ensures { self.new.is_paused ≡ is_paused }
     {

@@ -10,8 +10,8 @@ pub fn players_of<R: Files + AllocGlobal>(rt: &R, file: &str) -> Result<Vec<Play
     crate::read(rt.alloc(), text.as_slice()).context(format_args!("{file}"))
 }
 
-/// The same of a file that is to take the place of one by which a lobby serves: it fails also where the file has no
-/// player, or its last line no end.
+/// The players of a file that is to take the place of one by which a lobby serves. It fails where there is no file, or
+/// what it has is no players' file, and also where that has no player, or its last line no end.
 pub fn later_players_of<R: Files + AllocGlobal>(rt: &R, file: &str) -> Result<Vec<Player>> {
     let text = read_regular(rt, file).context(format_args!("reading {file}"))?;
     crate::reread(rt.alloc(), text.as_slice()).context(format_args!("{file}"))

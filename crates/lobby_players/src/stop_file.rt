@@ -1,7 +1,10 @@
-//! Why all clocks are stopped, for a lobby that begins anew: the server's moment stands still while this file is there.
+//! Why all clocks are stopped, for a lobby that begins anew, and by whoever puts the file there: the server's moment
+//! stands still while this file is there.
 use crate::file::{put_own_file, read_file, take_away};
 use anyhow::{Context, Result};
-use std::fs::File;
+use lobby_words::are_message_bytes;
+use std::alloc::AllocError;
+use std::fs::{self, File};
 use std::rt::Files;
 use std::str;
 use text_parts::before;
@@ -12,14 +15,19 @@ const UNTOLD: &str = "no reason is given";
 // A reason has so many bytes at most, as one that an arbiter says.
 const MOST: usize = 243;
 
-// The reason in a file: its first line, where that can be told.
+// The reason in a file: its first line, where an arbiter could say it.
 fn reason_in(bytes: &[u8]) -> &str {
     let line = before(str::from_utf8(bytes).unwrap_or(""), '\n');
-    let is_told = !line.is_empty() && line.len() <= MOST && line.bytes().all(|byte| byte >= 32);
+    let is_told = !line.is_empty() && line.len() <= MOST && are_message_bytes(line.as_bytes());
     if is_told { line } else { UNTOLD }
 }
 
-/// What is kept of that.
+// Why all clocks are stopped where a file is there that has these bytes; empty where there is none.
+fn reason_of(is_there: bool, bytes: &[u8]) -> &str {
+    if is_there { reason_in(bytes) } else { "" }
+}
+
+/// Why all clocks are stopped, as a file keeps it.
 #[derive(Drop)]
 pub struct StopFile<'a, R> {
     rt: &'a R,
@@ -28,8 +36,8 @@ pub struct StopFile<'a, R> {
 }
 
 impl<'a, R: Files<File = File> + AllocGlobal + Eprint> StopFile<'a, R> {
-    /// As it is kept in this file; where clocks are stopped that is told. It fails where the system does not tell,
-    /// where something else than a file has its name, or where none can be written beside it.
+    /// Why all clocks are stopped, as it is kept in this file; where they are stopped that is told. It fails where the
+    /// system does not tell, where something else than a file has its name, or where none can be written beside it.
     pub fn new(rt: &'a R, file: &'a str) -> Result<Self> {
         let bytes = read_file(rt, file)?;
         let tried = format!(in rt.alloc(); "{file}.try")?;
@@ -37,12 +45,8 @@ impl<'a, R: Files<File = File> + AllocGlobal + Eprint> StopFile<'a, R> {
             "writing beside {file}, by which clocks are stopped"
         ))?;
         take_away(rt, tried.as_str())?;
-        let is_there = std::fs::exists(rt, file)?;
-        let reason = if is_there {
-            reason_in(bytes.as_slice())
-        } else {
-            ""
-        };
+        let is_there = fs::exists(rt, file)?;
+        let reason = reason_of(is_there, bytes.as_slice());
         if is_there {
             let _ = eprintln!(rt;
                 "all clocks are stopped, as they were: {file} is there: {reason}"
@@ -57,7 +61,37 @@ impl<'a, R: Files<File = File> + AllocGlobal + Eprint> StopFile<'a, R> {
         self.reason.as_str()
     }
 
-    // Keeps it in the file.
+    // The bytes of the file, where it can be read.
+    fn bytes(&self) -> Vec<u8> {
+        match read_file(self.rt, self.file) {
+            Ok(bytes) => bytes,
+            Err(_) => Vec::new(self.rt.alloc()),
+        }
+    }
+
+    /// Looks whether somebody else has put the file there, written another reason, or taken it away: then why all
+    /// clocks are stopped from now on, empty where they run, which is told. Nothing where it is as it was kept, or the
+    /// system does not tell.
+    pub fn look(&mut self) -> Result<Option<String>, AllocError> {
+        let Ok(is_there) = fs::exists(self.rt, self.file) else {
+            return Ok(None);
+        };
+        let bytes = self.bytes();
+        let reason = reason_of(is_there, bytes.as_slice());
+        if reason == self.reason.as_str() {
+            return Ok(None);
+        }
+        let file = self.file;
+        let _ = if is_there {
+            eprintln!(self.rt; "all clocks are stopped by hand: {file} is there: {reason}")
+        } else {
+            eprintln!(self.rt; "all clocks run, by hand: {file} is gone")
+        };
+        self.reason = String::from_str(self.rt.alloc(), reason)?;
+        Ok(Some(String::from_str(self.rt.alloc(), reason)?))
+    }
+
+    // Keeps in the file why all clocks are stopped.
     fn put(&self, reason: &str) -> Result<()> {
         if reason.is_empty() {
             Ok(take_away(self.rt, self.file)?)
@@ -67,7 +101,7 @@ impl<'a, R: Files<File = File> + AllocGlobal + Eprint> StopFile<'a, R> {
         }
     }
 
-    /// Keeps it, where it is another. Where it answers, it is on the disk.
+    /// Keeps why all clocks are stopped, where that is news. Where it answers, it is on the disk.
     pub fn keep(&mut self, reason: &str) -> Result<()> {
         if reason == self.reason.as_str() {
             return Ok(());

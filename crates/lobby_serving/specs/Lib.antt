@@ -1,3 +1,4 @@
 pub mod Marks
 pub mod Listing
 pub mod Knowing
+pub mod Beside

@@ -142,17 +142,6 @@ impl GamesFile {
         lobby.take_off_file(self.path.as_bytes());
     }
 
-    // Begins to read the file.
-    fn begin<R>(&mut self, rt: &R, lobby: &mut Lobby)
-    where
-        R: Files<File = DiskFile> + AllocGlobal + Eprint,
-    {
-        match begun(rt, self.file.as_str()) {
-            Ok(reading) => self.reading = Some(reading),
-            Err(error) => self.fail(rt, lobby, &error),
-        }
-    }
-
     // What was read is served from now on; where it was written meanwhile it is read again at the next look. (Its tag
     // is made of its mark: of the bytes it would take a pass over all of them, in one turn.)
     fn end<R: AllocGlobal + Eprint>(
@@ -212,10 +201,13 @@ impl GamesFile {
             return Ok(());
         }
         self.seen = found;
-        if found.is_some() {
-            self.begin(rt, lobby);
-        } else {
+        if found.is_none() {
             lobby.take_off_file(self.path.as_bytes());
+            return Ok(());
+        }
+        match begun(rt, self.file.as_str()) {
+            Ok(reading) => self.reading = Some(reading),
+            Err(error) => self.fail(rt, lobby, &error),
         }
         Ok(())
     }

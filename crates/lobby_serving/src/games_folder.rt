@@ -58,7 +58,7 @@ where
     Ok(games)
 }
 
-// These numbers.
+// The set of these games.
 fn set_of(alloc: Global, games: &[u32]) -> Result<HashSet<u32>, AllocError> {
     let mut set = HashSet::new(alloc);
     for game in games {

@@ -35,7 +35,7 @@ fn put_connections(
         "connections",
         "gauge",
         "Browsers that were connected when these figures were made.",
-        lobby.connections() as u64,
+        lobby.hall().len() as u64,
     )?;
     put_number(
         text,
@@ -43,7 +43,7 @@ fn put_connections(
         "turned_away_total",
         "counter",
         "Connections that were turned away since the lobby began.",
-        lobby.turned_away(),
+        lobby.hall().turned_away(),
     )?;
     put_number(
         text,
@@ -51,7 +51,7 @@ fn put_connections(
         "logins_refused_total",
         "counter",
         "Logins that were refused since the lobby began.",
-        lobby.counts().logins_refused,
+        lobby.hall().counts().logins_refused,
     )
 }
 
@@ -128,19 +128,6 @@ fn count(counts: &mut BTreeMap<u32, u64>, games: &[u32]) -> Result<(), AllocErro
     Ok(())
 }
 
-// The rows of games that are watched.
-fn put_watched(
-    text: &mut String,
-    alloc: Global,
-    counts: &BTreeMap<u32, u64>,
-) -> Result<(), AllocError> {
-    for (game, count) in counts.iter() {
-        let game = format!(in alloc; "{game}")?;
-        put_labelled(text, alloc, "watchers", "game", game.as_str(), *count)?;
-    }
-    Ok(())
-}
-
 // Which games are watched, by how many connections each.
 fn put_watchers(text: &mut String, alloc: Global, games: &[u32]) -> Result<(), AllocError> {
     put_head(
@@ -152,48 +139,32 @@ fn put_watchers(text: &mut String, alloc: Global, games: &[u32]) -> Result<(), A
     )?;
     let mut counts = BTreeMap::new(alloc);
     count(&mut counts, games)?;
-    put_watched(text, alloc, &counts)
+    for (game, count) in counts.iter() {
+        let game = format!(in alloc; "{game}")?;
+        put_labelled(text, alloc, "watchers", "game", game.as_str(), *count)?;
+    }
+    Ok(())
 }
 
-// How long answers took.
+// How long answers took: how many no longer than each bound, how long they took together, and how many there were.
 fn put_times(text: &mut String, alloc: Global, counts: &Counts) -> Result<(), AllocError> {
-    let name = "answer_seconds";
     put_head(
         text,
         alloc,
-        name,
+        "answer_seconds",
         "histogram",
         "Time from the turn that takes a message to the turn that sends its answer, in whole milliseconds.",
     )?;
+    let bucket = "answer_seconds_bucket";
     for (bound, number) in BOUNDS.iter().zip(counts.within.iter()) {
         let bound = seconds(alloc, *bound)?;
-        put_bucket(text, alloc, bound.as_str(), *number)?;
+        put_labelled(text, alloc, bucket, "le", bound.as_str(), *number)?;
     }
-    put_bucket(text, alloc, "+Inf", counts.timed)?;
-    put_sum(text, alloc, name, counts)
-}
-
-// How many answers took no longer.
-fn put_bucket(
-    text: &mut String,
-    alloc: Global,
-    bound: &str,
-    number: u64,
-) -> Result<(), AllocError> {
-    put_labelled(text, alloc, "answer_seconds_bucket", "le", bound, number)
-}
-
-// How long they took together, and how many there were.
-fn put_sum(
-    text: &mut String,
-    alloc: Global,
-    name: &str,
-    counts: &Counts,
-) -> Result<(), AllocError> {
-    let sum = seconds(alloc, counts.time)?;
     let count = counts.timed;
+    put_labelled(text, alloc, bucket, "le", "+Inf", count)?;
+    let sum = seconds(alloc, counts.time)?;
     let lines = format!(in alloc;
-        "chess_lobby_{name}_sum {sum}\nchess_lobby_{name}_count {count}\n"
+        "chess_lobby_answer_seconds_sum {sum}\nchess_lobby_answer_seconds_count {count}\n"
     )?;
     text.push_str(lines.as_str())
 }
@@ -212,30 +183,6 @@ fn put_up(text: &mut String, alloc: Global, at: u64) -> Result<(), AllocError> {
     text.push_str(line.as_str())
 }
 
-// What the lobby counts, at a moment.
-fn put_counts(
-    text: &mut String,
-    alloc: Global,
-    lobby: &Lobby,
-    table: &Table,
-    at: u64,
-) -> Result<(), AllocError> {
-    put_up(text, alloc, at)?;
-    put_connections(text, alloc, lobby, table)?;
-    let games = lobby.watched_games()?;
-    put_watchers(text, alloc, games.as_slice())?;
-    put_answers(text, alloc, lobby.counts())?;
-    put_acts(text, alloc, lobby.counts())?;
-    put_times(text, alloc, lobby.counts())
-}
-
-// A text as the file that is served.
-fn file_of(alloc: Global, text: String) -> Result<File, AllocError> {
-    let bytes = Bytes::from_vec(text.into_bytes())?;
-    let path = PATH.to_vec(alloc)?;
-    File::new(alloc, path, Kind::Figures, bytes)
-}
-
 /// The text that is served, and from when on another is made.
 #[derive(Drop)]
 pub struct Health {
@@ -249,12 +196,20 @@ impl Health {
         Health { alloc, next_at: 0 }
     }
 
-    // The text, at a moment.
+    // The text, at a moment: what the lobby counts, and how many games the server told.
     fn text(&self, lobby: &Lobby, table: &Table, at: u64) -> Result<String, AllocError> {
-        let mut text = String::new(self.alloc);
-        put_counts(&mut text, self.alloc, lobby, table, at)?;
+        let alloc = self.alloc;
+        let mut text = String::new(alloc);
+        put_up(&mut text, alloc, at)?;
+        put_connections(&mut text, alloc, lobby, table)?;
+        let games = lobby.hall().watched_games()?;
+        put_watchers(&mut text, alloc, games.as_slice())?;
+        let counts = lobby.hall().counts();
+        put_answers(&mut text, alloc, counts)?;
+        put_acts(&mut text, alloc, counts)?;
+        put_times(&mut text, alloc, counts)?;
         if let Some(games) = table.games(at) {
-            put_games(&mut text, self.alloc, games)?;
+            put_games(&mut text, alloc, games)?;
         }
         Ok(text)
     }
@@ -266,6 +221,8 @@ impl Health {
         }
         self.next_at = at.saturating_add(REST);
         let text = self.text(lobby, table, at)?;
-        lobby.put_file(file_of(self.alloc, text)?)
+        let bytes = Bytes::from_vec(text.into_bytes())?;
+        let path = PATH.to_vec(self.alloc)?;
+        lobby.put_file(File::new(self.alloc, path, Kind::Figures, bytes)?)
     }
 }

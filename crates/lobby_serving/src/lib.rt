@@ -4,7 +4,8 @@
 //! the figures by `lines`, `table` asks the server whether it is up and how many games it has, by a `question`, of
 //! whose answer `listing` counts them, `games_file` reads a file of games, `games_folder` those of a folder,
 //! `games_files` all of them, and `players` that of the players, by `mark`, which tells whether a file has changed,
-//! `links` changes links in it and hands decisions on, `log` keeps the log in its file.
+//! `links` changes links in it, hands decisions on, and looks for clocks that are stopped by hand, `log` keeps the log
+//! in its file.
 #![tactic(auto)]
 
 mod asked;

@@ -1,6 +1,6 @@
 //! Players' links, changed in the players' file, players who are added there, whether entries are paused, kept beside
 //! it, why clocks are stopped, and what arbiters decide.
-ghost use Rattle.std.specs.Prelude.{ℕ, List, [], ◌≡◌, IfOk, IfSome};
+ghost use Rattle.std.specs.Prelude.{ℕ, false, List, [], ◌≡◌, IfOk, IfSome};
 ghost use Rattle.std.specs.String.{string_bytes};
 ghost use Rattle.hex.specs.Hex.{encode_lower};
 ghost use Rattle.lobby_words.specs.Players.{IsCarriedOut};
@@ -13,6 +13,7 @@ use lobby_players::{ChangedFile, Hold, PauseFile, StopFile, carried_out, new_tok
 use lobby_words::{Change, Linked, Player, cut_word, player_by_name};
 use rand::rngs::SysRng;
 use rand_core::TryRng;
+use std::alloc::AllocError;
 use std::fs::File;
 use std::io::{self, ErrorKind};
 use std::random::RandomSource;
@@ -59,6 +60,7 @@ where
     pub fn halts(&self) -> Result<Halts>
         ensures paused { IfOk result (λ halts. halts.is_paused ≡ self.now.entries.is_paused) }
         ensures announced { IfOk result (λ halts. string_bytes halts.announced ≡ []) }
+        ensures room { IfOk result (λ halts. halts.is_full ≡ false) }
     {
         let reason = self.clocks.as_ref().map_or("", |clocks| clocks.reason());
         Ok(Halts {
@@ -66,7 +68,16 @@ where
             can_stop: self.clocks.is_some(),
             reason: String::from_str(self.rt.alloc(), reason)?,
             announced: String::new(self.rt.alloc()),
+            is_full: false,
         })
+    }
+
+    /// Looks whether somebody else has stopped all clocks or has them run: then why they are, empty where they run.
+    pub fn stopped_by_hand(&mut self) -> Result<Option<String>, AllocError> {
+        match &mut self.clocks {
+            Some(clocks) => clocks.look(),
+            None => Ok(None),
+        }
     }
 
     // One of these players, who are those of the file, which is held, or one more has the sum of a new token in it:
@@ -98,7 +109,8 @@ where
         Ok(new)
     }
 
-    // The same, where nobody else holds the file. Where the link is closed nobody is told the token.
+    // One of these players, or one more, has the sum of a new token in the file, where nobody else holds that. Where
+    // the link is closed nobody is told the token.
     fn changed<G: TryRng>(
         &mut self,
         source: &mut G,

@@ -7,13 +7,6 @@ use std::fs::{self, DirEntry};
 use std::net::SocketAddr;
 use std::rt::Files;
 
-// The path that a request names a file by: `/` for `index.html`.
-fn path_of(alloc: Global, name: &str) -> Result<Vec<u8>> {
-    let name = if name == "index.html" { "" } else { name };
-    let path = format!(in alloc; "/{name}")?;
-    Ok(path.into_bytes())
-}
-
 // The bytes of a file of the page. It fails where it is no regular file: to open a pipe may last for ever.
 fn bytes_of<R: Files + AllocGlobal>(rt: &R, entry: &DirEntry<R>) -> Result<Vec<u8>> {
     let name = entry.file_name();
@@ -24,7 +17,8 @@ fn bytes_of<R: Files + AllocGlobal>(rt: &R, entry: &DirEntry<R>) -> Result<Vec<u
     Ok(fs::read(rt, entry.path())?)
 }
 
-// A file of a folder, where its name has the ending of one that is of the page.
+// A file of a folder, where its name has the ending of one that is of the page. A request names it by that name, and
+// `index.html` by `/`.
 fn file_of<R: Files + AllocGlobal>(
     rt: &R,
     folder: &str,
@@ -35,7 +29,12 @@ fn file_of<R: Files + AllocGlobal>(
     };
     let bytes = bytes_of(rt, entry).context(format_args!("reading {folder}"))?;
     let bytes = Bytes::from_vec(bytes)?;
-    let path = path_of(rt.alloc(), entry.file_name())?;
+    let name = match entry.file_name() {
+        "index.html" => "",
+        name => name,
+    };
+    let path = format!(in rt.alloc(); "/{name}")?;
+    let path = path.into_bytes();
     Ok(Some(File::new(rt.alloc(), path, kind, bytes)?))
 }
 

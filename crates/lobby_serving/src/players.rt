@@ -95,7 +95,7 @@ impl<'a, R: Files + AllocGlobal + Clock + Eprint> Players<'a, R> {
         }
     }
 
-    // These, without an arbiter where there is no log.
+    // These players, without an arbiter where there is no log.
     fn known(&self, mut players: Vec<Player>) -> Vec<Player>
         ensures { result.items ≡ known_of self.now.has_log players.items }
     {

@@ -1,4 +1,9 @@
 //! The word that serves browsers.
+ghost use Rattle.std.specs.Prelude.{◌≡◌, ◌≢◌, ◌<◌, OnOk};
+ghost use Rattle.lobby_players.specs.declared.halts.Finding.TheVariants as findings;
+ghost use Rattle.lobby_loop.specs.Living.{Finds};
+ghost use Rattle.lobby_serving.specs.Beside.{TellsClocks};
+
 use crate::asked::Serving;
 use crate::games_files::GamesFiles;
 use crate::health::Health;
@@ -8,8 +13,8 @@ use crate::page::{has_port, site_of};
 use crate::players::Players;
 use crate::table::Table;
 use anyhow::{Context, Result};
-use lobby_desk::Halts;
-use lobby_loop::{Lobby, LobbyListener, NoActLog, Turned};
+use lobby_desk::{Finding, Halts};
+use lobby_loop::{Beginning, Comers, Lobby, LobbyListener, NoActLog, Roll, Turned};
 use lobby_words::Player;
 use sockets::{Moments, ServerAddress};
 use std::alloc::AllocError;
@@ -18,6 +23,9 @@ use std::hash::RandomState;
 use std::net::{Net, SocketAddr};
 use std::random::RandomSource;
 use std::rt::{Clock, Files};
+
+// So many milliseconds lie between two looks whether all clocks were stopped by hand.
+const LOOK_EVERY: u64 = 1_000;
 
 // So many milliseconds lie at least between two lines that tell of one count.
 const REST: u64 = 60_000;
@@ -74,13 +82,13 @@ impl<R: Eprint> Telling<'_, R> {
 
     // How many connections were turned away, and how many logins were refused, since it began.
     fn tell_counts(&mut self, lobby: &Lobby, at: u64) {
-        let turned_away = lobby.turned_away();
+        let turned_away = lobby.hall().turned_away();
         if self.turned_away.is_news(turned_away, at) {
             let _ = eprintln!(self.rt;
                 "so many connections were turned away or made room by now: {turned_away}"
             );
         }
-        let refused = lobby.counts().logins_refused;
+        let refused = lobby.hall().counts().logins_refused;
         if self.logins_refused.is_news(refused, at) {
             let _ = eprintln!(self.rt;
                 "so many logins were refused by now, by links that hold no more or by guesses: {refused}"
@@ -107,6 +115,15 @@ struct Beside<'a, R, D> {
     health: Health,
     games: GamesFiles<'a>,
     links: FileLinks<'a, R, D>,
+    // Who was here when the log was told last.
+    roll: Roll,
+    // The second that goes.
+    comers: Comers,
+    // Whether it was told last that there is no room for the log.
+    is_full: bool,
+    // Whether clocks can be stopped, and when it is looked next whether they were by hand.
+    can_stop: bool,
+    clocks_at: u64,
 }
 
 impl<'a, R, D> Beside<'a, R, D>
@@ -133,7 +150,44 @@ where
             health: Health::new(rt.alloc()),
             games: GamesFiles::new(rt.alloc(), serving)?,
             links,
+            roll: Roll::new(rt.alloc()),
+            comers: Comers::new(),
+            is_full: false,
+            can_stop: serving.stopped.is_some(),
+            clocks_at: 0,
         })
+    }
+
+    // Has everybody told whether there is room for the log, where that is news.
+    fn tell_room(&mut self, lobby: &mut Lobby, is_full: bool) -> Result<(), AllocError>
+        ensures told { OnOk result (self.new.is_full ≡ is_full) }
+        ensures news { OnOk result (self.old.is_full ≢ is_full
+            → Finds (findings.LogFull is_full) lobby.old.hall lobby.new.hall) }
+        ensures same { self.old.is_full ≡ is_full → lobby.new.hall ≡ lobby.old.hall }
+    {
+        if is_full != self.is_full {
+            lobby.found(&Finding::LogFull(is_full))?;
+            self.is_full = is_full;
+        }
+        Ok(())
+    }
+
+    // Has everybody told that all clocks were stopped by hand, or have to run, where that is news; it is looked at once
+    // in a second. After so many milliseconds it is to be looked at again, where clocks can be stopped.
+    fn look_at_clocks(&mut self, lobby: &mut Lobby, at: u64) -> Result<Option<u64>, AllocError>
+        ensures early { at < self.old.clocks_at → lobby.new.hall ≡ lobby.old.hall }
+        ensures told { OnOk result (TellsClocks lobby.old.hall lobby.new.hall) }
+    {
+        if !self.can_stop {
+            return Ok(None);
+        }
+        if at >= self.clocks_at {
+            self.clocks_at = at.saturating_add(LOOK_EVERY);
+            if let Some(reason) = self.links.stopped_by_hand()? {
+                lobby.found(&Finding::Clocks(reason))?;
+            }
+        }
+        Ok(Some(self.clocks_at.saturating_sub(at)))
     }
 
     // Takes turns until something is at fault.
@@ -152,6 +206,7 @@ where
                     let looked = log.look(at).context("the log of acts")?;
                     players.has_log_from_now_on(looked.is_safe);
                     players.look(lobby, at);
+                    self.tell_room(lobby, looked.is_full)?;
                     self.turn(lobby, log, at, looked.rest)?;
                 }
             }
@@ -170,13 +225,14 @@ where
         self.table.look(self.rt, lobby, at)?;
         self.health.look(lobby, &self.table, at)?;
         let games_rest = self.games.look(self.rt, lobby, at)?;
-        lobby.see_comers(at);
+        let clocks_rest = self.look_at_clocks(lobby, at)?;
+        lobby.see_comers(&mut self.comers, at);
         let turned = lobby.turn(self.rt, at, log, &mut self.links)?;
-        lobby.tell_roll(log)?;
-        self.telling.tell_server(lobby.has_server());
+        lobby.tell_roll(&mut self.roll, log)?;
+        self.telling.tell_server(lobby.hall().has_server());
         self.telling.tell_counts(lobby, at);
         let rested = within(within(turned, self.table.rest(at)), games_rest);
-        lobby.rest(within(rested, log_rest))?;
+        lobby.rest(within(within(rested, log_rest), clocks_rest))?;
         Ok(())
     }
 }
@@ -199,8 +255,8 @@ fn tell_hosts<R: Print + Eprint>(rt: &R, port: u16, hosts: &[&str]) {
     }
 }
 
-// Prints the page's address, or where all of this machine's are listened at those of its hosts. (A lobby of which nobody
-// reads what it tells goes on.)
+// Prints the page's address, or where all of this machine's are listened at those of its hosts. (A lobby of which
+// nobody reads what it tells goes on.)
 fn tell_address<R: Print + Eprint>(rt: &R, address: SocketAddr, hosts: &[&str]) {
     if address.ip().is_unspecified() {
         tell_hosts(rt, address.port(), hosts);
@@ -246,18 +302,17 @@ where
         let (rt, serving) = (self.rt, self.serving);
         let keys = RandomState::new(rt)?;
         let site = site_of(rt, serving.page, address, serving.hosts.as_slice())?;
-        Ok(Lobby::new(
-            rt,
-            rt.alloc(),
+        let beginning = Beginning {
             keys,
             listener,
-            serving.server,
+            server: serving.server,
             site,
-            known,
+            players: known,
             halts,
-            serving.limits,
-            serving.proxy,
-        )?)
+            limits: serving.limits,
+            proxy: serving.proxy,
+        };
+        Ok(Lobby::new(rt, rt.alloc(), beginning)?)
     }
 }
 

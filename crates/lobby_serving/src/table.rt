@@ -56,14 +56,6 @@ impl Table {
         }
     }
 
-    // Notes that figures were asked for.
-    fn note(&mut self, asked: u64, at: u64) {
-        if asked != self.asked {
-            self.asked = asked;
-            self.wanted_until = at.saturating_add(WANTED);
-        }
-    }
-
     // Whether a question is to be begun.
     fn is_due(&self, at: u64) -> bool {
         self.question.is_none() && at >= self.next_at && at < self.wanted_until
@@ -96,22 +88,22 @@ impl Table {
         }
     }
 
-    // What was told is told no more.
-    fn forget(&mut self) {
-        self.question = None;
-        self.is_answering = false;
-        self.games = None;
-        self.next_at = 0;
-    }
-
     /// Asks the server, where its connection is new, or it is time and somebody wants it, or goes on with that. It
     /// waits for nothing.
     pub fn look(&mut self, net: &impl Net, lobby: &Lobby, at: u64) -> Result<(), AllocError> {
-        self.note(lobby.counts().figures, at);
+        let asked = lobby.hall().counts().figures;
+        if asked != self.asked {
+            self.asked = asked;
+            self.wanted_until = at.saturating_add(WANTED);
+        }
         let was_here = self.is_here;
-        self.is_here = lobby.has_server();
+        self.is_here = lobby.hall().has_server();
         if !self.is_here {
-            self.forget();
+            // (what was told is told no more)
+            self.question = None;
+            self.is_answering = false;
+            self.games = None;
+            self.next_at = 0;
             return Ok(());
         }
         if !was_here || self.is_due(at) {

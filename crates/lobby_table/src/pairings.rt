@@ -99,8 +99,8 @@ pub fn join_bar(
     }
 }
 
-/// Why he may not open one, where as many of his wait as may, where the last places are for others, and where this bars
-/// him.
+/// Why a player may not open a game, where as many of his wait as may, where the last places are for others, and where
+/// this bars him.
 pub fn open_bar(is_crowded: bool, is_full: bool, bar: Option<Refusal>) -> Option<Refusal>
     ensures { result ≡ spec.open_bar is_crowded is_full bar }
 {

@@ -37,7 +37,7 @@ fn renewed(before: &[Player], later: &[Player], who: Option<Identity>) -> Option
     goes_on(old, new)
 }
 
-// For whom a connection acts then, written where it stands. It tells that the connection stays.
+// For whom a connection acts when the players are others, written where it stands. It tells that the connection stays.
 fn renew(visitor: &mut Visitor, before: &[Player], later: &[Player]) -> bool
     ensures stays { result ≡ true }
     ensures renewed { visitor.new ≡ visitor_renewed before.now later.now visitor.old }

@@ -100,7 +100,7 @@ fn dated_of(one: &Attendance, at: u64) -> Attendance
     }
 }
 
-// The same of all.
+// All players, as they are known at the moment of a message.
 fn date_all(all: &mut [Attendance], at: u64)
     ensures { all.new ≡ map (spec.dated_of at) all.old }
 {
@@ -125,7 +125,7 @@ pub fn attend(
     Ok(())
 }
 
-// What is known of the last connection by which he was left.
+// What is known of the last connection by which a player was left.
 fn left_of(all: &[Attendance], name: &str) -> Left
     ensures { result ≡ spec.left_of name.now all.now }
 {
@@ -194,7 +194,7 @@ fn watching(watches: &[Watch], game: u32) -> usize
     watches.iter().filter(|watch| watch.game == game).count()
 }
 
-// How the answer begins.
+// How the answer to `room G` begins.
 fn room_head(alloc: Global, game: u32, count: usize) -> Result<String, AllocError>
     ensures { IfOk result (λ text. string_bytes text ≡ spec.room_head game count) }
 {

@@ -24,7 +24,7 @@ fn is_seat(one: &Seat, stage: Stage, name: &str) -> bool
     is_stage(one.stage, stage) && one.by.as_str() == name
 }
 
-// How many such seats a player has.
+// How many seats a player has in games that stand so.
 fn seats_by(seats: &[Seat], stage: Stage, name: &str) -> usize
     ensures { result ≡ count_by (spec.is_seat stage name.now) seats.now }
 {
@@ -42,7 +42,7 @@ fn enters(text: &str, stage: Stage) -> bool
     }
 }
 
-// Whether an act is one, for this player.
+// Whether an act, but the join of a pairing, is one by which one more game of this player stands so.
 fn enters_by(act: &Acting, stage: Stage, name: &str) -> bool
     ensures { result ≡ spec.enters_by stage name.now act.now.who (string_bytes act.now.text) }
 {
@@ -56,7 +56,7 @@ fn plays_by(text: &str, stage: Stage, name: &str) -> bool
     is_stage(stage, Stage::Plays) && (as_name(text) == name || black_name(text) == name)
 }
 
-// Whether it has one more game of this player stand so, where that is opened.
+// Whether the message of a pairing has one more game of this player stand so, as that is opened and joined.
 fn pairs_by(text: &str, stage: Stage, name: &str) -> bool
     ensures { result ≡ spec.pairs_by stage name.now text.now }
 {
@@ -72,7 +72,7 @@ fn acts_by(act: &Acting, stage: Stage, name: &str) -> bool
     enters_by(act, stage, name) || is_pair(text) && plays_by(text, stage, name)
 }
 
-// Whether the answer to such an act for this player is due.
+// Whether the answer is due to an act by which one more game of this player stands so.
 fn is_entry(due: &Due, stage: Stage, name: &str) -> bool
     ensures { result ≡ spec.is_entry stage name.now (owed_of due.now) }
 {
@@ -83,7 +83,7 @@ fn is_entry(due: &Due, stage: Stage, name: &str) -> bool
     }
 }
 
-// How many such answers are due.
+// How many answers are due to acts by which one more game of this player stands so.
 fn entries(queue: &VecDeque<Due>, stage: Stage, name: &str) -> usize
     ensures { result ≡ count_by (spec.is_entry stage name.now) (map owed_of queue.now.items) }
 {
@@ -114,7 +114,7 @@ fn is_opening(due: &Due) -> bool
     }
 }
 
-// How many such answers are due.
+// How many answers are due to acts that open a game.
 fn openings(queue: &VecDeque<Due>) -> usize
     ensures { result ≡ count_by spec.is_opening (map owed_of queue.now.items) }
 {
@@ -138,7 +138,7 @@ fn are_taken(most: usize, seats: usize, waiting: usize, openings: usize) -> bool
 }
 
 impl ServerLine {
-    /// Whether a player has so many such seats. Those count of which the answer is not there yet.
+    /// Whether a player has so many seats in games that stand so. Those count of which the answer is not there yet.
     pub fn has_many(&self, most: usize, stage: Stage, name: &str) -> bool
         ensures { result ≡ spec.has_many most stage self.now.seats.items (map owed_of self.now.queue.items) name.now }
     {
@@ -185,7 +185,7 @@ fn first_by(seats: &[Seat], game: u32) -> Option<Name>
     seats.iter().find(|one| one.game == game).map(|one| one.by)
 }
 
-// That seat, in the game that goes on.
+// The seat of who had the first one in a game, once that goes on.
 fn still_by(game: u32, by: Option<Name>) -> Option<Seat>
     ensures { result ≡ spec.still_by game by }
 {

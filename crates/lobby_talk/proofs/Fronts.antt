@@ -1,13 +1,13 @@
 -- A text with the first word of an act begins as one.
 use Rattle.std.proofs.Common.{ℕ, suc, ◌≡◌, ◌≤◌, ◌<◌, ◌+◌, ◌⊎◌, ◌||◌, ◌==◌, inl, inr, Bool, true, false, List, [], ◌∷◌, ◌++◌, codes, length, take, refl, ap, sym, ◌∙◌, subst, arith, if◌then◌else◌}
-use Rattle.std.specs.List.{position_or_len}
+use Rattle.std.specs.List.{position_or_len, AllByRecursion}
 use Rattle.std.specs.Str.{bytes_eq}
-use Rattle.std.proofs.lemmas.Bool.{cases_Bool}
+use Rattle.std.proofs.lemmas.Bool.{cases_Bool, false≢true}
 use Rattle.std.proofs.lemmas.Bool.Decides.{Decides-eqb}
 use Rattle.std.proofs.lemmas.List.Recursion.{is_position_or_len}
 use Rattle.std.proofs.lemmas.Slice.Eq.{bytes_eq-Decides}
 use Rattle.lobby_words.specs.Words.{word_of, is_act_word, is_play_word}
-use Rattle.lobby_talk.specs.Front.{is_act, is_hasty_word}
+use Rattle.lobby_talk.specs.Front.{is_act, is_brief, is_hasty_word, brief_words, long_words, has_word}
 
 -- ---- a text is its word, or that, a space and more
 
@@ -187,6 +187,30 @@ by_login : (text : List ℕ) → bytes_eq (word_of text) (codes "login") ≡ tru
 by_login text is long =
     begins_with text (codes "login") is long (λ _. login_alone) login_begins
 
+offers_alone : is_act (take 5 (codes "offers")) ≡ true
+unfolding is_act
+offers_alone = refl
+
+offers_begins : (rest : List ℕ) → is_act (take 5 (codes "offers" ++ 32 ∷ rest)) ≡ true
+unfolding is_act
+offers_begins rest = refl
+
+by_offers : (text : List ℕ) → bytes_eq (word_of text) (codes "offers") ≡ true → 5 ≤ length text → is_act (take 5 text) ≡ true
+by_offers text is long =
+    begins_with text (codes "offers") is long (λ _. offers_alone) offers_begins
+
+unpair_alone : is_act (take 5 (codes "unpair")) ≡ true
+unfolding is_act
+unpair_alone = refl
+
+unpair_begins : (rest : List ℕ) → is_act (take 5 (codes "unpair" ++ 32 ∷ rest)) ≡ true
+unfolding is_act
+unpair_begins rest = refl
+
+by_unpair : (text : List ℕ) → bytes_eq (word_of text) (codes "unpair") ≡ true → 5 ≤ length text → is_act (take 5 text) ≡ true
+by_unpair text is long =
+    begins_with text (codes "unpair") is long (λ _. unpair_alone) unpair_begins
+
 or_either : (a b : Bool) → (a || b) ≡ true → (a ≡ true) ⊎ (b ≡ true)
 or_either true b is = inl refl
 or_either false b is = inr is
@@ -208,4 +232,49 @@ by_act text = either text _ _ (either text _ _ (by_open text) (by_join text)) (b
 
 pub begins_as_act : (text : List ℕ) → Begins text (is_hasty_word (word_of text))
 begins_as_act text =
-    either text _ _ (either text _ _ (either text _ _ (either text _ _ (by_act text) (by_drop text)) (by_as text)) (by_pair text)) (by_login text)
+    either text _ _ (either text _ _ (either text _ _ (either text _ _ (either text _ _ (either text _ _ (by_act text) (by_drop text)) (by_as text)) (by_pair text)) (by_login text)) (by_offers text)) (by_unpair text)
+
+-- ---- a text with another first word does not
+
+-- a test of the first five letters is false of a text with this first word
+abbrev IsNotFront : (List ℕ → Bool) → List ℕ → Type 0
+IsNotFront test w = (test (take 5 w) ≡ false) × ((rest : List ℕ) → test (take 5 (w ++ 32 ∷ rest)) ≡ false)
+
+not_begun : (test : List ℕ → Bool) (text w : List ℕ) → bytes_eq (word_of text) w ≡ true → IsNotFront test w → test (take 5 text) ≡ false
+not_begun test text w is none =
+    elim (word_text text w ((bytes_eq-Decides (word_of text) w).0 is)) [
+      | inl same ↦ subst (λ (l : List ℕ). test (take 5 l) ≡ false) (sym same) none.0
+      | inr behind ↦ subst (λ (l : List ℕ). test (take 5 l) ≡ false) (sym behind.1) (none.1 behind.0)
+    ]
+
+none_begun : (test : List ℕ → Bool) (text : List ℕ) (words : List (List ℕ)) → AllByRecursion (IsNotFront test) words →
+    has_word words text ≡ true → test (take 5 text) ≡ false
+none_begun test text [] none is = absurd (false≢true is)
+none_begun test text (w ∷ words) none is =
+    elim (or_either (bytes_eq (word_of text) w) (has_word words text) is) [
+      | inl this ↦ not_begun test text w this none.0
+      | inr other ↦ none_begun test text words none.1 other
+    ]
+
+no_acts : AllByRecursion (IsNotFront is_act) (brief_words ++ long_words)
+unfolding is_act
+no_acts =
+    ((refl, λ rest. refl), ((refl, λ rest. refl), ((refl, λ rest. refl), ((refl, λ rest. refl), ((refl, λ rest.
+    refl), ((refl, λ rest. refl), ((refl, λ rest. refl), ((refl, λ rest. refl), ((refl, λ rest. refl), ((refl, λ
+    rest. refl), ((refl, λ rest. refl), ((refl, λ rest. refl), ((refl, λ rest. refl), ((refl, λ rest. refl), ((refl,
+    λ rest. refl), ((refl, λ rest. refl), ((refl, λ rest. refl), ((refl, λ rest. refl), ((refl, λ rest. refl),
+    ((refl, λ rest. refl), ((refl, λ rest. refl), tt)))))))))))))))))))))
+
+none_brief : AllByRecursion (IsNotFront is_brief) long_words
+unfolding is_brief
+none_brief =
+    ((refl, λ rest. refl), ((refl, λ rest. refl), ((refl, λ rest. refl), ((refl, λ rest. refl), ((refl, λ rest.
+    refl), ((refl, λ rest. refl), ((refl, λ rest. refl), ((refl, λ rest. refl), ((refl, λ rest. refl), ((refl, λ
+    rest. refl), ((refl, λ rest. refl), ((refl, λ rest. refl), ((refl, λ rest. refl), ((refl, λ rest. refl), ((refl,
+    λ rest. refl), tt)))))))))))))))
+
+pub begins_as_none : (text : List ℕ) → has_word (brief_words ++ long_words) text ≡ true → is_act (take 5 text) ≡ false
+begins_as_none text is = none_begun is_act text (brief_words ++ long_words) no_acts is
+
+pub begins_not_brief : (text : List ℕ) → has_word long_words text ≡ true → is_brief (take 5 text) ≡ false
+begins_not_brief text is = none_begun is_brief text long_words none_brief is

@@ -1,34 +1,48 @@
 -- What stands in front of what came of a browser's socket.
 use Rattle.std.specs.Prelude.{ℕ, Bool, List, [], ◌∷◌, ◌==◌, ◌&&◌, ◌||◌, if◌then◌else◌, nat_le, eqb, codes, bit_xor}
-use Rattle.std.specs.Prelude.{length, slice_index}
-use Rattle.std.specs.List.{starts_with}
+use Rattle.std.specs.Prelude.{length, slice_index, not}
+use Rattle.std.specs.List.{starts_with, list_any}
 use Rattle.std.specs.Str.{bytes_eq}
-use Rattle.lobby_words.specs.Words.{is_act_word, is_as_word}
+use Rattle.lobby_words.specs.Words.{word_of, is_act_word, is_as_word}
 
 abbrev pub begins : List ℕ → List ℕ → Bool
 begins text word = starts_with eqb text word
 
--- Whether a text is an act, a pairing or a login, by how it begins; or `offers`, whose answer is short.
+-- Whether a text is an act, a pairing or a login, by how it begins; or `offers` or `unpair`, whose answers are short.
 unfoldable pub is_act : List ℕ → Bool
 is_act text =
     begins text (codes "move ") || begins text (codes "offer") || begins text (codes "accep")
     || begins text (codes "decli") || begins text (codes "resig") || begins text (codes "claim")
     || begins text (codes "flag ") || begins text (codes "open ") || begins text (codes "join ")
     || begins text (codes "drop ") || begins text (codes "login") || begins text (codes "pair ")
-    || begins text (codes "as ")
+    || begins text (codes "as ") || begins text (codes "unpai")
 
--- the first words of acts, of a pairing and of a login
+-- the first words of acts, of a pairing, of what is offered, and of a login
 abbrev pub is_hasty_word : List ℕ → Bool
 is_hasty_word w =
     is_act_word w || bytes_eq w (codes "drop") || is_as_word w || bytes_eq w (codes "pair")
-    || bytes_eq w (codes "login")
+    || bytes_eq w (codes "login") || bytes_eq w (codes "offers") || bytes_eq w (codes "unpair")
+
+-- The other words of messages: of those that ask for little, and of all others, which may ask for much.
+abbrev pub brief_words : List (List ℕ)
+brief_words =
+    codes "watch" ∷ codes "leave" ∷ codes "show" ∷ codes "fen" ∷ codes "room" ∷ codes "moves" ∷ []
+
+abbrev pub long_words : List (List ℕ)
+long_words =
+    codes "pgn" ∷ codes "list" ∷ codes "line" ∷ codes "lobby" ∷ codes "players" ∷ codes "who" ∷ codes "pause"
+    ∷ codes "resume" ∷ codes "stop" ∷ codes "start" ∷ codes "announce" ∷ codes "decide" ∷ codes "link"
+    ∷ codes "close" ∷ codes "player" ∷ []
+
+-- the first word of a text is one of these
+abbrev pub has_word : List (List ℕ) → List ℕ → Bool
+has_word words text = list_any (λ w. bytes_eq (word_of text) w) words
 
 -- Whether it asks for little: how one game stands, or that no more is told.
 unfoldable pub is_brief : List ℕ → Bool
 is_brief text =
     begins text (codes "watch") || begins text (codes "leave") || begins text (codes "show ")
     || begins text (codes "fen ") || begins text (codes "room ") || begins text (codes "moves")
-    || begins text (codes "unpai")
 
 -- Whether a frame that begins so is a whole text message of at most 125 bytes, and masked (RFC 6455, 5.2).
 abbrev pub is_short_text : ℕ → ℕ → Bool
@@ -56,3 +70,16 @@ has_act unread = is_act (letters unread)
 
 abbrev pub has_brief : List ℕ → Bool
 has_brief unread = is_brief (letters unread)
+
+-- whether it asks what is offered, and is no offer of a draw: it begins with `offers`
+abbrev pub asks_offers : List ℕ → Bool
+asks_offers unread =
+    nat_le 12 (length unread) && (begins (letters unread) (codes "offer") && letter_at unread 11 3 == 115)
+
+-- whether it is no whole text message of at most 125 bytes, so that how it begins is not seen
+abbrev pub is_hidden : List ℕ → Bool
+is_hidden unread = nat_le 2 (length unread) && not (is_short_text (slice_index unread 0) (slice_index unread 1))
+
+-- whether an act may stand in front
+abbrev pub may_be_act : List ℕ → Bool
+may_be_act unread = (has_act unread && not (asks_offers unread)) || is_hidden unread

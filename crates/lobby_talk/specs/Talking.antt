@@ -1,6 +1,9 @@
 -- What the desk is told, and what goes from it.
-use Rattle.std.specs.Prelude.{ℕ, ◌≡◌, ◌≤◌, ◌+◌, ◌∷◌, ◌++◌, Bool, true, false, List, Option, None, Some, []}
-use Rattle.std.specs.Prelude.{IsUtf8, is_some}
+use Rattle.std.specs.Prelude.{ℕ, ◌≡◌, ◌≤◌, ◌+◌, ◌∷◌, ◌++◌, ⊤, Bool, true, false, List, Option, None, Some, []}
+use Rattle.std.specs.Prelude.{IsUtf8, is_some, if◌then◌else◌}
+use Rattle.std.specs.String.{string_bytes}
+use Rattle.lobby_words.specs.declared.planning.Order.{Order}
+use Rattle.lobby_words.specs.Words.{full_said}
 use Rattle.lobby_words.specs.declared.players.Player.{Player}
 use Rattle.lobby_words.specs.declared.linked.Linked.{Linked as Done}
 use Rattle.lobby_words.specs.declared.refusals.Refusal.TheVariants.{NotWritten}
@@ -8,8 +11,9 @@ use Rattle.lobby_words.specs.Plans.{refusal_text}
 use Rattle.lobby_desk.specs.declared.desk.Desk.{Desk}
 use Rattle.lobby_desk.specs.Strangers.{acts}
 use Rattle.lobby_desk.specs.Events.{DeskInput, Opened, Said, Hurried, Linked, message_values, to_one}
+use Rattle.lobby_players.specs.Halts.{Halted}
 use Rattle.lobby_desk.specs.Pace.{is_too_fast}
-use Rattle.lobby_desk.specs.Who.{Begins as BeginsDesk, Steps, order_asked, said_event, until_of}
+use Rattle.lobby_desk.specs.Who.{Begins as BeginsDesk, Steps, decides_now, order_asked, said_event, until_of}
 use Rattle.lobby_talk.specs.declared.talk.Talk.{Talk}
 
 -- Nothing was said, and nothing is told or is to go but what was.
@@ -38,22 +42,25 @@ StepsAt old event before after new =
     Steps old.desk event before after (message_values old.told.items) (message_values new.told.items) new.desk
 
 -- The desk takes this event: the lines for it stand behind what is to go to the server, and the messages for it behind
--- those that are to go to connections.
+-- those that are to go to connections. The replay that is under way stays.
 pub record Moves (old : Talk) (event : DeskInput) (new : Talk) : Type 0 where
   pub steps : StepsAt old event old.wire.items new.wire.items new
   pub next : new.next ≡ old.next
+  pub replay : new.replay ≡ old.replay
 
 -- A connection comes, and has a number that none had before.
 pub record Opens (old : Talk) (c : ℕ) (new : Talk) : Type 0 where
   pub steps : StepsAt old (Opened c) old.wire.items new.wire.items new
   pub fresh : old.next ≤ c
   pub next : new.next ≡ c + 1
+  pub replay : new.replay ≡ old.replay
 
 -- The desk takes this event, and nothing is to go to the server: what was to go there is not sent.
 pub record MovesAnew (old : Talk) (event : DeskInput) (new : Talk) : Type 0 where
   pub steps : StepsAt old event [] [] new
   pub nothing : new.wire.items ≡ []
   pub next : new.next ≡ old.next
+  pub replay : new.replay ≡ old.replay
 
 -- How the desk takes a message: it came in time, at this moment; or too fast; or it asked for a player's link, or a
 -- player more, for which the players' file has these players and this token was made.
@@ -82,6 +89,42 @@ pub record IsRefused (c : ℕ) (old new : Talk) : Type 0 where
 abbrev pub IsOrderTold : Option Done → ℕ → Talk → Talk → Type 0
 IsOrderTold None c old new = IsRefused c old new
 IsOrderTold (Some done) c old new = new.desk.players.items ≡ done.players.items
+
+-- A change of the players' file that was made: the order, the full name of who is added by it, and the token.
+pub record Changed : Type 0 where
+  pub order : Order
+  pub full_name : List ℕ
+  pub token : List ℕ
+
+-- This change stands behind those that were made before, or it was not made and they are as they were; where they are
+-- known.
+abbrev pub with_made : Order → List ℕ → Option Done → List Changed → List Changed
+with_made order full_name None before = before
+with_made order full_name (Some done) before =
+    before ++ record { order = order; full_name = full_name; token = string_bytes done.token } ∷ []
+
+abbrev pub IsMadeIn : Order → List ℕ → Option Done → Option (List Changed) → Option (List Changed) → Type 0
+IsMadeIn order full_name linked None after = ⊤
+IsMadeIn order full_name linked (Some before) after = after ≡ Some (with_made order full_name linked before)
+
+-- this is what was told last, where that is known
+abbrev pub IsToldLast : Halted → Option Halted → Type 0
+IsToldLast halts None = ⊤
+IsToldLast halts (Some last) = last ≡ halts
+
+-- What a message has changed in the players' file: nothing where it asks for no order; else what that says, with the
+-- full name of the message, and the players are those that this has handed back; or nothing, and then it is refused.
+abbrev pub IsOrdered : Option Order → ℕ → List ℕ → Option (List Changed) → Option (List Changed) → Talk → Talk → Type 0
+IsOrdered None c text before after old new = after ≡ before
+IsOrdered (Some order) c text before after old new =
+    (done : Option Done) × IsMadeIn order (full_said text) done before after × IsOrderTold done c old new
+
+-- the order of a message at a moment, if it asks for one; a decision does not
+abbrev pub order_if : Bool → Option Order → Option Order
+order_if decides order = if decides then None else order
+
+abbrev pub order_said : Talk → ℕ → List ℕ → ℕ → Option Order
+order_said talk c text at = order_if (decides_now talk.desk c text at) (order_asked talk.desk c text at)
 
 -- a message of a connection at a moment is said to the desk
 pub record Says (text : List ℕ) (c at : ℕ) (old new : Talk) : Type 0 where

@@ -2,6 +2,8 @@
 ghost use Rattle.std.specs.Prelude.{◌≡◌};
 ghost use Rattle.lobby_talk.specs.Counting.{counted_up, is_answer, one_if, refuses_login};
 
+use text_parts::behind;
+
 /// The acts: the second words of their answers.
 pub const ACTS: [&str; 11] = [
     "open", "join", "pair", "move", "offer", "accept", "decline", "resign", "claim", "flag", "drop",
@@ -54,7 +56,7 @@ pub fn is_answer(text: &str) -> bool
         || text.starts_with("lost\n")
 }
 
-// One more.
+// One more is counted.
 fn count(number: &mut u64)
     ensures { number.new ≡ counted_up number.old 1 }
 {
@@ -65,12 +67,6 @@ fn count(number: &mut u64)
 fn first_word(text: &str) -> &str {
     text.split_once(' ')
         .map_or_else(|| text.trim_end(), |(word, _)| word)
-}
-
-// The word behind that.
-fn second_word(text: &str) -> &str {
-    text.split_once(' ')
-        .map_or("", |(_, rest)| first_word(rest))
 }
 
 // An act was accepted, if it is one.
@@ -98,15 +94,13 @@ pub struct Coming {
     messages: u64,
 }
 
-impl Coming {
-    /// Nothing came.
-    pub fn new() -> Coming {
-        Coming {
-            figures: 0,
-            messages: 0,
-        }
-    }
+/// Nothing came.
+pub const NOTHING_CAME: Coming = Coming {
+    figures: 0,
+    messages: 0,
+};
 
+impl Coming {
     /// A piece came of a browser.
     pub fn take(&mut self, piece: &[u8]) {
         if piece.starts_with(FIGURES) {
@@ -120,25 +114,23 @@ impl Coming {
     }
 }
 
-impl Counts {
-    /// Nothing was counted.
-    pub fn new() -> Counts {
-        Counts {
-            at: 0,
-            figures: 0,
-            messages: 0,
-            ok: 0,
-            no: 0,
-            fallen: 0,
-            lost: 0,
-            logins_refused: 0,
-            acts: [0; 11],
-            timed: 0,
-            time: 0,
-            within: [0; 12],
-        }
-    }
+/// Nothing was counted.
+pub const NOTHING_COUNTED: Counts = Counts {
+    at: 0,
+    figures: 0,
+    messages: 0,
+    ok: 0,
+    no: 0,
+    fallen: 0,
+    lost: 0,
+    logins_refused: 0,
+    acts: [0; 11],
+    timed: 0,
+    time: 0,
+    within: [0; 12],
+};
 
+impl Counts {
     /// What came is counted too.
     pub fn add(&mut self, coming: &Coming)
         ensures logins { self.new.logins_refused ≡ self.old.logins_refused }
@@ -180,7 +172,7 @@ impl Counts {
         match first_word(text) {
             "ok" => {
                 count(&mut self.ok);
-                count_act(&mut self.acts, second_word(text));
+                count_act(&mut self.acts, first_word(behind(text, ' ')));
             }
             "no" => count(&mut self.no),
             "fallen" => count(&mut self.fallen),
@@ -198,15 +190,13 @@ pub struct Asked {
     second: Option<u64>,
 }
 
-impl Asked {
-    /// Nothing was asked.
-    pub fn new() -> Asked {
-        Asked {
-            first: None,
-            second: None,
-        }
-    }
+/// Nothing was asked.
+pub const NOTHING_ASKED: Asked = Asked {
+    first: None,
+    second: None,
+};
 
+impl Asked {
     /// A message was taken at a moment.
     pub fn push(&mut self, at: u64) {
         if self.first.is_none() {

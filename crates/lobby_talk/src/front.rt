@@ -1,8 +1,9 @@
 //! What stands in front of what came of a browser's socket.
-ghost use Rattle.std.specs.Prelude.{ℕ, ◌≡◌, ◌≤◌, ◌<◌, true, List, length, take};
+ghost use Rattle.std.specs.Prelude.{ℕ, ◌≡◌, ◌≤◌, ◌<◌, ◌++◌, true, false, List, length, take};
 ghost use Rattle.lobby_words.specs.Words.{word_of};
 ghost use Rattle.lobby_talk.specs.Front.{is_act, is_brief, is_short_text, letter_at, has_letters, letters};
-ghost use Rattle.lobby_talk.specs.Front.{has_act, has_brief, is_hasty_word};
+ghost use Rattle.lobby_talk.specs.Front.{has_act, has_brief, asks_offers, is_hidden, may_be_act, is_hasty_word};
+ghost use Rattle.lobby_talk.specs.Front.{brief_words, long_words, has_word};
 
 /// The first byte of a frame that is a whole text message, and the least and the most that the second one has where a
 /// mask stands behind it, and then at most 125 bytes (RFC 6455, 5.2).
@@ -33,6 +34,7 @@ fn is_act(text: &[u8]) -> bool
         || text.starts_with(b"login")
         || text.starts_with(b"pair ")
         || text.starts_with(b"as ")
+        || text.starts_with(b"unpai")
 }
 
 // Whether a message asks for little, by how it begins.
@@ -46,7 +48,6 @@ fn is_brief(text: &[u8]) -> bool
         || text.starts_with(b"fen ")
         || text.starts_with(b"room ")
         || text.starts_with(b"moves")
-        || text.starts_with(b"unpai")
 }
 
 // Whether a frame that begins so is a whole text message of at most 125 bytes, and masked.
@@ -65,14 +66,14 @@ fn letter_at(unread: &[u8], place: usize, mask: usize) -> u8
     unread[place] ^ unread[mask]
 }
 
-// Whether what came begins with such a frame, and the first letters of its text are there.
+// Whether what came begins with a whole text message of at most 125 bytes, and the first letters of it are there.
 fn has_letters(unread: &[u8]) -> bool
     ensures { result ≡ has_letters unread.now }
 {
     unread.len() >= LETTERS_END && is_short_text(unread[0], unread[1])
 }
 
-// The first letters of the text in the first frame of what came; zeros where that is no such frame.
+// The first letters of the text in the first frame of what came; zeros where `has_letters` finds none.
 #[tactic(auto, unfolding(crate::specs::Front::letters))]
 fn letters(unread: &[u8]) -> [u8; 5]
     ensures { result ≡ letters unread.now }
@@ -96,15 +97,44 @@ pub fn has_act(unread: &[u8]) -> bool
     is_act(&letters(unread))
 }
 
-/// Whether it is one that begins as what asks for little.
+/// Whether the first frame of what came is a message that begins as what asks for little does.
 pub fn has_brief(unread: &[u8]) -> bool
     ensures { result ≡ has_brief unread.now }
 {
     is_brief(&letters(unread))
 }
 
-/// Whatever the first word of an act, of a pairing or of a login is: a text of five letters or more with it begins as
-/// `has_act` has it. So nothing of these is put off as a question.
+// Whether it is one that begins with `offers`: it asks what is offered, and is no offer of a draw.
+fn asks_offers(unread: &[u8]) -> bool
+    ensures { result ≡ asks_offers unread.now }
+{
+    unread.len() > LETTERS_END
+        && letters(unread).starts_with(b"offer")
+        && letter_at(unread, 11, 3) == b's'
+}
+
+// Whether it is no whole text message of at most 125 bytes, so that how it begins is not seen.
+fn is_hidden(unread: &[u8]) -> bool
+    ensures { result ≡ is_hidden unread.now }
+{
+    unread.len() >= 2 && !is_short_text(unread[0], unread[1])
+}
+
+/// Whether an act may stand in front of what came: one does, or a frame of which that is not seen, as one by which it
+/// comes in pieces.
+pub fn may_be_act(unread: &[u8]) -> bool
+    ensures { result ≡ may_be_act unread.now }
+{
+    has_act(unread) && !asks_offers(unread) || is_hidden(unread)
+}
+
+/// Whatever the first word of an act, of a pairing, of what is offered or of a login is: a text of five letters or more
+/// with it begins as `has_act` has it, so nothing of these is put off as a question; and none with another message's
+/// word does, nor one that may ask for much as `has_brief` has it.
 pub fn law_of_fronts()
-    ensures { (text : List ℕ) → is_hasty_word (word_of text) ≡ true → 5 ≤ length text → is_act (take 5 text) ≡ true }
+    ensures hasty { (text : List ℕ) → is_hasty_word (word_of text) ≡ true → 5 ≤ length text →
+        is_act (take 5 text) ≡ true }
+    ensures others { (text : List ℕ) → has_word (brief_words ++ long_words) text ≡ true →
+        is_act (take 5 text) ≡ false }
+    ensures long { (text : List ℕ) → has_word long_words text ≡ true → is_brief (take 5 text) ≡ false }
 {}

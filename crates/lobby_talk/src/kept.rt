@@ -6,7 +6,7 @@ ghost use Rattle.lobby_talk.specs.Keeping.{size_of_all, kept_most, shown, HasKep
 use crate::kept_answer::KeptAnswer;
 use std::alloc::{AllocError, Global};
 
-/// So many bytes of them are kept at most.
+/// So many bytes of answers are kept at most.
 const KEPT_MOST: usize = 16_777_216;
 
 /// Answers, the oldest first, of each game one.
@@ -43,8 +43,8 @@ fn let_go_beyond(answers: &mut Vec<KeptAnswer>, most: usize)
 fn put(answers: &mut Vec<KeptAnswer>, one: KeptAnswer) -> Result<(), AllocError>
     ensures { size_of_all answers.new.items ≤ kept_most }
 {
-    let game = one.game();
-    answers.retain(|kept| kept.game() != game);
+    let game = one.game;
+    answers.retain(|kept| kept.game != game);
     match KEPT_MOST.checked_sub(one.size()) {
         None => {
             let_go_beyond(answers, KEPT_MOST);
@@ -79,7 +79,7 @@ impl KeptAnswers {
         None
     }
 
-    /// The same, in memory of its own.
+    /// The answer that was made of this PGN, if it is kept, in memory of its own.
     pub fn copy_of(&self, game: u32, pgn: &str) -> Result<Option<KeptAnswer>, AllocError>
         ensures { IfOk result (λ found. IfSome found (λ answer. string_bytes answer.pgn ≡ pgn.now)) }
     {

@@ -8,7 +8,8 @@ use std::alloc::{AllocError, Global};
 /// An answer, and the server's answer to `pgn G` of which it was made.
 #[derive(Drop)]
 pub struct KeptAnswer {
-    game: u32,
+    /// The number of its game.
+    pub(crate) game: u32,
     pgn: String,
     answer: String,
     pub ghost made: { ∥ IsOfLine (string_bytes pgn) (string_bytes answer) ∥₁ },
@@ -35,11 +36,6 @@ impl KeptAnswer {
     {
         let answer = String::from_str(alloc, "lost\n")?;
         Ok(KeptAnswer::new(game, pgn, answer))
-    }
-
-    /// The number of its game.
-    pub fn game(&self) -> u32 {
-        self.game
     }
 
     /// The server's answer to `pgn G` of which it was made.

@@ -5,7 +5,7 @@ ghost use Rattle.lobby_words.specs.Players.{IsCarriedOut};
 ghost use Rattle.lobby_words.specs.Words.{full_said};
 ghost use Rattle.lobby_desk.specs.Events.{message_values};
 ghost use Rattle.lobby_desk.specs.Who.{IsReady, IsDecisionTold, decides_now, order_asked};
-ghost use Rattle.lobby_talk.specs.Talking.{Says, IsTextSaid, IsOrderTold};
+ghost use Rattle.lobby_talk.specs.Talking.{Says, IsTextSaid, IsOrderTold, IsOrdered, order_said};
 ghost use Rattle.lobby_talk.specs.Deciding.{IsDecided, name_in};
 ghost use Rattle.lobby_desk.specs.Strangers.{player_at};
 
@@ -57,9 +57,11 @@ fn say_order<K: KeepsLinks>(
     requires ready { IsReady talk.old.desk number }
     requires asked { order_asked talk.old.desk number shown.now at ≡ Some order.now }
     ensures says { OnOk result (Says shown.now number at talk.old talk.new) }
+    ensures changed { OnOk result (IsOrdered (Some order.now) number shown.now (K.changed links.old)
+        (K.changed links.new) talk.old talk.new) }
     ensures decided { K.decided links.new ≡ K.decided links.old }
 {
-    let done = links.change(order, full_said(shown), talk.players());
+    let done = links.change(order, full_said(shown), talk.desk().players());
     say_done(shown, number, talk, at, order, done)
 }
 
@@ -95,7 +97,7 @@ fn name_in(by: &Option<Name>) -> &str
     }
 }
 
-// The same, where whoever keeps the decisions is asked first.
+// A message is said to the desk by which an arbiter decides: whoever keeps the decisions is asked first.
 fn say_decision<K: KeepsLinks>(
     shown: &str,
     number: u64,
@@ -108,9 +110,10 @@ fn say_decision<K: KeepsLinks>(
     ensures says { OnOk result (Says shown.now number at talk.old talk.new) }
     ensures decided { OnOk result (IsDecided true number shown.now (K.decided links.old) (K.decided links.new)
         talk.old talk.new) }
+    ensures changed { K.changed links.new ≡ K.changed links.old }
 {
-    let by = talk.player_at(number);
-    let is_put = links.decide(name_in(&by), shown, talk.players());
+    let by = talk.desk().player_at(number);
+    let is_put = links.decide(name_in(&by), shown, talk.desk().players());
     say_decided(shown, number, talk, at, is_put)
 }
 
@@ -124,9 +127,11 @@ fn say_plain<K: KeepsLinks>(
 ) -> Result<(), AllocError>
     requires { IsReady talk.old.desk number }
     ensures says { OnOk result (Says shown.now number at talk.old talk.new) }
+    ensures changed { OnOk result (IsOrdered (order_asked talk.old.desk number shown.now at) number shown.now
+        (K.changed links.old) (K.changed links.new) talk.old talk.new) }
     ensures decided { K.decided links.new ≡ K.decided links.old }
 {
-    match talk.order(number, shown, at) {
+    match talk.desk().order(number, shown, at) {
         None => {
             talk.said(number, shown, at)?;
             Ok(())
@@ -145,10 +150,12 @@ fn say<K: KeepsLinks>(
 ) -> Result<(), AllocError>
     requires { IsReady talk.old.desk number }
     ensures says { OnOk result (Says shown.now number at talk.old talk.new) }
+    ensures changed { OnOk result (IsOrdered (order_said talk.old number shown.now at) number shown.now
+        (K.changed links.old) (K.changed links.new) talk.old talk.new) }
     ensures decided { OnOk result (IsDecided (decides_now talk.old.desk number shown.now at) number shown.now
         (K.decided links.old) (K.decided links.new) talk.old talk.new) }
 {
-    if talk.decides(number, shown, at) {
+    if talk.desk().decides(number, shown, at) {
         say_decision(shown, number, talk, at, links)
     } else {
         say_plain(shown, number, talk, at, links)
@@ -156,7 +163,8 @@ fn say<K: KeepsLinks>(
 }
 
 /// A text of a connection is said to the desk; one that is no UTF-8 as the empty text, which is refused. Where it is an
-/// arbiter's decision, it is put first, and told just where that was done.
+/// arbiter's decision, it is put first, and told just where that was done; and where it asks for a change of the
+/// players' file that is made first, and the players are those that were handed back, just where it was done.
 pub fn say_to_desk<K: KeepsLinks>(
     text: &[u8],
     number: u64,
@@ -169,6 +177,9 @@ pub fn say_to_desk<K: KeepsLinks>(
     ensures decided { OnOk result ((shown : List ℕ) × (IsUtf8 text.now → shown ≡ text.now)
         × (¬ IsUtf8 text.now → shown ≡ []) × IsDecided (decides_now talk.old.desk number shown at) number shown
         (K.decided links.old) (K.decided links.new) talk.old talk.new) }
+    ensures changed { OnOk result ((shown : List ℕ) × (IsUtf8 text.now → shown ≡ text.now)
+        × (¬ IsUtf8 text.now → shown ≡ []) × IsOrdered (order_said talk.old number shown at) number shown
+        (K.changed links.old) (K.changed links.new) talk.old talk.new) }
 {
     let shown = str::from_utf8(text).unwrap_or("");
     say(shown, number, talk, at, links)

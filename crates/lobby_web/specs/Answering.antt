@@ -1,6 +1,6 @@
 -- What a site answers to a request.
-use Rattle.std.specs.Prelude.{ℕ, ◌≡◌, ◌⊎◌, ◌==◌, ◌&&◌, ◌||◌, Bool, true, false, List, [], ◌∷◌, ◌++◌, Option, None, Some, bytes_eq}
-use Rattle.std.specs.Prelude.{codes, MatchBool}
+use Rattle.std.specs.Prelude.{ℕ, ◌≡◌, ◌⊎◌, ◌==◌, ◌&&◌, ◌||◌, Bool, true, false, List, [], ◌∷◌, ◌++◌, Option, None, Some}
+use Rattle.std.specs.Prelude.{codes, bytes_eq, MatchBool}
 use Rattle.http.specs.declared.request.Request.{Request}
 use Rattle.std.specs.List.{list_any}
 use Rattle.http1.specs.Fields.{Header, elements}

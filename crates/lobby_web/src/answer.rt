@@ -2,8 +2,7 @@
 ghost use Rattle.std.specs.Prelude.{◌≡◌, ◌++◌, ◌∷◌, [], Some, false, IfSome, IsTrue, OnOk, bytes_eq, codes};
 ghost use Rattle.std.specs.Option.{option_copied};
 ghost use Rattle.std.specs.Net.Grammar.{IsIpText};
-ghost use Rattle.std.specs.Char.{is_ascii_digit};
-ghost use Rattle.std.specs.List.{list_all, list_any};
+ghost use Rattle.std.specs.List.{list_any};
 ghost use Rattle.http.specs.Request.{head_of};
 ghost use Rattle.http_header.specs.Token.{lowercase};
 ghost use Rattle.http_header.specs.FieldName.{is_header_name};
@@ -153,6 +152,7 @@ fn only_reads(request: &Request<Bytes>) -> bool
     has_method(request, b"GET") || has_method(request, b"HEAD")
 }
 
+// The media type of what a file is.
 fn media_type(kind: Kind) -> &'static str
     ensures value { result.now ≡ media_type kind }
     ensures visible { IsTrue (is_visible_text result.now) }
@@ -186,7 +186,7 @@ fn add_field(
     )
 }
 
-// The same with a value of these bytes; it fails too where they are none of a field.
+// Puts a field whose value is these bytes behind those of an answer; it fails too where they are none of a field.
 fn add_value(
     alloc: Global,
     response: &mut Response,
@@ -220,7 +220,7 @@ fn guard(response: &mut Response, status: StatusCode) -> Result<(), AllocError>
     add_field(response, "cache-control", "no-cache")
 }
 
-// The same with a media type.
+// The status and the fields that each answer has but an upgrade, with a media type, and no body yet.
 fn begin(response: &mut Response, status: StatusCode, kind: &'static str) -> Result<(), AllocError>
     requires blank { IsBlank response.old }
     requires visible { IsTrue (is_visible_text kind.now) }
@@ -352,18 +352,11 @@ fn send_file(
     }
 }
 
-// Whether all these bytes are digits.
-fn are_digits(text: &[u8]) -> bool
-    ensures { result ≡ list_all is_ascii_digit text.now }
-{
-    text.iter().all(|byte| byte.is_ascii_digit())
-}
-
 // Whether a text is the digits of a number.
 fn is_number(text: &[u8]) -> bool
     ensures { result ≡ is_number text.now }
 {
-    !text.is_empty() && are_digits(text)
+    !text.is_empty() && text.iter().all(|byte| byte.is_ascii_digit())
 }
 
 // Whether a path names a game's board: `/board/` and the digits of a number.

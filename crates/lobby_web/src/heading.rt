@@ -10,16 +10,16 @@ pub enum Line {
     Blank,
     /// A line that is not empty, and has no end yet.
     Within,
-    /// One that has.
+    /// A line that is not empty, and its end.
     Whole,
-    /// The same, and a carriage return.
+    /// A line that is not empty, its end, and a carriage return.
     Returned,
 }
 
 impl Line {
     ghost use Rattle.lobby_web.specs.Heading.{line_after, ends_head};
 
-    // The same once this byte has come.
+    // What stands at the end of what came, once this byte has.
     fn after(self, byte: u8) -> Line
         ensures { result ≡ line_after self byte }
     {
@@ -93,7 +93,7 @@ impl Heading {
         is_end || is_foreign(byte)
     }
 
-    // These have come. It tells whether one of them ends a head, or is none of a head.
+    // These bytes have come. It tells whether one of them ends a head, or is none of a head.
     fn run(&mut self, bytes: &[u8]) -> bool
         ensures end { result ≡ has_end self.old bytes.now }
         ensures heading { self.new ≡ heading_after self.old bytes.now }

@@ -8,6 +8,7 @@ ghost use Rattle.std.specs.Iterator.{YieldsFirstRef, item_count};
 
 use httparse::is_space_or_tab;
 
+// A text without the white space in front of it.
 fn trimmed_front(mut text: &[u8]) -> &[u8]
     ensures { result.now ≡ skip_ows text.now }
 {
@@ -19,6 +20,7 @@ fn trimmed_front(mut text: &[u8]) -> &[u8]
     text
 }
 
+// A text without the white space behind it.
 fn trimmed_end(mut text: &[u8]) -> &[u8]
     ensures { result.now ≡ reverse (skip_ows (reverse text.now)) }
 {

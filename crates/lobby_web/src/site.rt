@@ -17,7 +17,7 @@ pub enum Kind {
     Svg,
     /// Games, which pages of other hosts read too.
     Pgn,
-    /// The same as objects of JSON.
+    /// Games as objects of JSON, which pages of other hosts read too.
     Games,
     /// What a page reads of a round.
     Json,
@@ -81,8 +81,8 @@ impl File {
         File::marked(alloc, path, kind, bytes, sum.as_slice())
     }
 
-    /// The same with the tag by a mark, as its hex digits in quotes: for who has a tag by this mark these bytes are
-    /// those that he has, so other bytes at this path have another mark. It is made without a look at the bytes.
+    /// A file with the entity tag by a mark, as its hex digits in quotes: for who has a tag by this mark these bytes
+    /// are those that he has, so other bytes at this path have another mark. It is made without a look at the bytes.
     pub fn marked(
         alloc: Global,
         path: Vec<u8>,

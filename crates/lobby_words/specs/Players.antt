@@ -161,7 +161,8 @@ IsCarriedIf true name full_name token before after = IsJoined name full_name tok
 IsCarriedIf false name full_name token before after = IsRelinked name token before after
 
 abbrev pub IsCarriedOut : Order → List ℕ → List ℕ → List Player → List Player → Type 0
-IsCarriedOut order full_name token before after = IsCarriedIf (adds order.change) order.name full_name token before after
+IsCarriedOut order full_name token before after =
+    IsCarriedIf (adds order.change) order.name full_name token before after
 
 -- two players who differ in no more than their full names
 pub record IsAlike (a b : Player) : Type 0 where

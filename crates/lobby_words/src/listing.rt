@@ -62,8 +62,8 @@ pub fn ends_wait(text: &str) -> bool
     word == "join" || word == "drop" || word == "pair"
 }
 
-#[tactic(auto, using(crate::proofs::Names::name_is, crate::proofs::Names::name_is_not))]
 /// A seat of this player in the game of a number, which stands so; none where no player can have the name.
+#[tactic(auto, using(crate::proofs::Names::name_is, crate::proofs::Names::name_is_not))]
 pub fn seat_of(game: Option<u32>, seated: &str, stage: Stage) -> Option<Seat>
     ensures { result ≡ spec.seat_of game seated.now stage }
 {

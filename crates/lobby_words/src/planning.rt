@@ -217,7 +217,7 @@ fn as_plan(standing: &Standing, who: Identity) -> Plan
     }
 }
 
-// A pairing of these two.
+// A pairing of this White and Black.
 fn black_plan(standing: &Standing, who: Identity, white: Name, black: Option<Name>) -> Plan
     ensures { result ≡ plans.black_plan standing.now who white black }
 {
@@ -227,6 +227,7 @@ fn black_plan(standing: &Standing, who: Identity, white: Name, black: Option<Nam
     }
 }
 
+// A pairing of this White, and of who is Black by the message.
 fn white_plan(standing: &Standing, who: Identity, white: Option<Name>) -> Plan
     ensures { result ≡ plans.white_plan standing.now who white }
 {

@@ -45,7 +45,7 @@ fn is_token_digit(byte: u8) -> bool
     matches!(byte, b'0'..=b'9' | b'a'..=b'f')
 }
 
-// Whether each byte is one of these digits.
+// Whether each byte is one of the digits 0 to 9 and a to f.
 fn are_token_digits(bytes: &[u8]) -> bool
     ensures { result ≡ list_all is_token_digit bytes.now }
 {

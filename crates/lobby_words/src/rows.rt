@@ -16,6 +16,7 @@ use player_name::Name;
 use std::alloc::{AllocError, Global};
 use std::collections::HashSet;
 
+// The word of a role, as it stands between a name and a full name.
 fn role_text(is_arbiter: bool) -> &'static str
     ensures { result.now ≡ role_text is_arbiter }
 {

@@ -4,3 +4,5 @@ pub mod Lists
 pub mod Stages
 pub mod Runs
 pub mod Nights
+mod Later
+mod Placed

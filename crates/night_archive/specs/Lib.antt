@@ -5,3 +5,5 @@ pub mod Files
 pub mod Clerk
 pub mod Laws
 pub mod Night
+pub mod Places
+pub mod Halves

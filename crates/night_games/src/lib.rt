@@ -4,7 +4,8 @@
 //! Modules: `told` puts what is known of players and boards into a PGN; `evidence` tells of the log, by `gaps` of what
 //! is missing there, and whether it stands as it was put; `page` tells the same as a page, into which `html` puts texts
 //! so that none is read as markup, `law` has the law; `last_line` has how far a log goes. `particulars` has what a row
-//! tells of a player, `roster` the rows of the file, `roster_faults` what may be wrong with them; `roster_file` reads it.
+//! tells of a player, `roster` the rows of the file, `roster_faults` what may be wrong with them; `roster_file` reads
+//! it.
 #![tactic(auto)]
 
 mod evidence;

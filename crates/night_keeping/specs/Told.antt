@@ -18,8 +18,8 @@ verdict_told verdict = codes "decided " ++ verdict_text verdict
 abbrev pub ground_told : List ℕ → Grounds → List ℕ
 ground_told verdict g = g.arbiter ++ codes " " ++ verdict ++ article_told g.article ++ codes ": " ++ g.reason
 
--- Where full names are told by initials it is the verdict alone, since the arbiter's is a full name, and names may stand
--- in the reason.
+-- Where full names are told by initials it is the verdict alone, since the arbiter's is a full name, and names may
+-- stand in the reason.
 abbrev pub decision_told : NameForm → Decided → List ℕ
 decision_told forms.Full d = ground_told (verdict_told d.head.verdict) d.ground
 decision_told forms.Initials d = verdict_told d.head.verdict

@@ -95,8 +95,8 @@ fn push_round(
     Ok(())
 }
 
-/// The games that are boards of these rounds, the first being round 1, by their files as they are now, with what is told
-/// of decisions where full names are told in a form.
+/// The games that are boards of these rounds, the first being round 1, by their files as they are now, with what is
+/// told of decisions where full names are told in a form.
 pub fn games_of_rounds<R: Files + AllocGlobal + Eprint>(
     rt: &R,
     form: NameForm,

@@ -3,19 +3,10 @@ use crate::asked::{Exporting, Form};
 use crate::besides::Read;
 use anyhow::Result;
 use lobby_words::NameForm;
-use night_archive::{Kept, games_kept, lines_told, write_games, write_rows};
+use night_archive::{games_kept, lines_told, write_games, write_rows};
 use night_outcomes::players_in;
 use std::io;
 use std::rt::Files;
-
-// Writes games in a form to standard output.
-fn write<R: AllocGlobal + Print>(rt: &R, form: Form, games: &[Kept]) -> Result<()> {
-    let mut output = io::writer(rt);
-    match form {
-        Form::Pgn => write_games(rt.alloc(), &mut output, games),
-        Form::Csv => write_rows(rt.alloc(), &mut output, games),
-    }
-}
 
 /// Writes the games of an archive: the PGN of each, or a row for each, with what is told of players and boards. It
 /// fails where the file is no archive, as `lines_told` does, where another file cannot be read or is none, where memory
@@ -31,5 +22,9 @@ where
     let known = read.known(rt.alloc())?;
     let telling = read.telling(players.as_slice(), known.as_slice());
     let told = telling.games(rt.alloc(), games)?;
-    write(rt, exporting.form, told.as_slice())
+    let mut output = io::writer(rt);
+    match exporting.form {
+        Form::Pgn => write_games(rt.alloc(), &mut output, told.as_slice()),
+        Form::Csv => write_rows(rt.alloc(), &mut output, told.as_slice()),
+    }
 }

@@ -7,10 +7,11 @@ ghost use Rattle.night_keeping.specs.Games.{games_over_in, is_at};
 
 use crate::asking::{Knowledge, pgn_of};
 use anyhow::{Context, Result, anyhow, bail};
-use night_archive::{Archive, Kept, Night, games_kept, has_game, push_ended};
+use night_archive::{
+    Archive, EndedGame, Kept, Night, first_half, games_kept, has_game, is_opened_for, push_ended,
+};
 use night_files::DiskFile;
 use night_links::Link;
-use night_log::{EndedGame, first_half, is_opened_for};
 use server_answers::{Row, seat_text};
 use std::alloc::{AllocError, Global};
 use std::collections::BTreeSet;

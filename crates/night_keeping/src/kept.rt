@@ -13,19 +13,8 @@ use text_pgn::with_tag;
 /// The tag that has a game's number.
 const NUMBER: &str = "GameId";
 
-// Appends the PGN of a game with its number as a tag, and the full names of its players in a form.
-fn push_game(
-    text: &mut Vec<u8>,
-    alloc: Global,
-    form: NameForm,
-    telling: &Telling<'_>,
-    kept: &Kept,
-) -> Result<()> {
-    let pgn = with_tag(alloc, kept.pgn.as_str(), NUMBER, kept.game)?;
-    push_with(text, alloc, form, telling, kept.game, pgn.as_bytes())
-}
-
-// The PGNs of games, so, in the order opposite to theirs.
+// The PGNs of games, in the order opposite to theirs: each with its number as a tag, and the full names of its players
+// in a form.
 fn text_of(
     alloc: Global,
     form: NameForm,
@@ -34,7 +23,8 @@ fn text_of(
 ) -> Result<Vec<u8>> {
     let mut text = Vec::new(alloc);
     for kept in games.iter().rev() {
-        push_game(&mut text, alloc, form, telling, kept)?;
+        let pgn = with_tag(alloc, kept.pgn.as_str(), NUMBER, kept.game)?;
+        push_with(&mut text, alloc, form, telling, kept.game, pgn.as_bytes())?;
     }
     Ok(text)
 }

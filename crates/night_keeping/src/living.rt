@@ -130,21 +130,8 @@ fn boards_of(alloc: Global, text: &str, since: Option<&str>) -> Result<Vec<Board
     Ok(boards)
 }
 
-// The PGN of a board, with what is told besides.
-fn told_of(alloc: Global, form: NameForm, telling: &Telling<'_>, board: &Board) -> Result<Vec<u8>> {
-    let mut text = Vec::new(alloc);
-    push_with(
-        &mut text,
-        alloc,
-        form,
-        telling,
-        board.game,
-        board.pgn.as_slice(),
-    )?;
-    Ok(text)
-}
-
-// The same of the table's boards and of those of the archive that were kept or are not there any more, in their order.
+// The PGNs of the table's boards, and of those of the archive that were kept or are not there any more, in their order,
+// with what is told besides.
 fn pgns_of(
     alloc: Global,
     form: NameForm,
@@ -155,7 +142,9 @@ fn pgns_of(
     let boards = in_order(alloc, table, archived)?;
     let mut pgns = Vec::new(alloc);
     for board in boards.as_slice() {
-        let pgn = told_of(alloc, form, telling, board)?;
+        let mut pgn = Vec::new(alloc);
+        let plain = board.pgn.as_slice();
+        push_with(&mut pgn, alloc, form, telling, board.game, plain)?;
         pgns.push(pgn)?;
     }
     Ok(pgns)

@@ -20,11 +20,6 @@ pub fn rows_of(alloc: Global, list: &str) -> Result<Vec<Row>> {
     Ok(rows)
 }
 
-/// The least number on the table: later games have greater ones. `None` where the table has no game.
-pub fn first_on_table(rows: &[Row]) -> Option<u32> {
-    rows.iter().map(|row| row.game).min()
-}
-
 /// The games that are over, in the order of the list.
 pub fn games_over(alloc: Global, rows: &[Row]) -> Result<Vec<u32>, AllocError>
     ensures { IfOk result (λ games. games.items ≡ games_over_in rows.now) }

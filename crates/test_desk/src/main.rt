@@ -4,9 +4,10 @@
 //! A line of standard input is `browser` (one more comes), `leave N`, `say N TEXT` (with `|` for a line feed),
 //! `link N TOKEN TEXT` (it says a text that asks for a link or a player more, which is made with this token),
 //! `renew ROW|ROW ..` (the players are these, each `NAME TOKEN ROLE FULL NAME`), `anew` (a desk begins with these
-//! players), `wait MS` (so many milliseconds pass), `here`, `gone` or `server LINE`. It is written back behind `% `;
-//! then what goes to the server, each line behind `> `, and each message behind the numbers of those who are told it,
-//! or behind `log`.
+//! players), `wait MS` (so many milliseconds pass), `log full` and `log goes on` (there is no room for the log, and
+//! there is), `hand REASON` and `hand` (all clocks are stopped by hand, and run), `here`, `gone` or `server LINE`. It
+//! is written back behind `% `; then what goes to the server, each line behind `> `, and each message behind the numbers
+//! of those who are told it, or behind `log`.
 //!
 //! Or it is `tag NAME VALUE` (event, site, date, round, white or black has this value from there on), `clocks` with
 //! numbers of milliseconds (what the clocks showed after the moves of the next game, `-` where that is not known), or

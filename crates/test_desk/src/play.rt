@@ -3,7 +3,7 @@ use crate::club::{Member, add_member, file_of, give_token, members_of, players_o
 use crate::tags::Tags;
 use anyhow::{Context, Result, bail};
 use hex::FromHex;
-use lobby_desk::{Desk, Halts, Kind, Limits, Message};
+use lobby_desk::{Desk, Finding, Halts, Kind, Limits, Message};
 use lobby_players::carried_out;
 use lobby_words::{Change, full_said};
 use std::alloc::Global;
@@ -82,6 +82,7 @@ fn running(alloc: Global) -> Halts {
         can_stop: true,
         reason: String::new(alloc),
         announced: String::new(alloc),
+        is_full: false,
     }
 }
 
@@ -187,6 +188,11 @@ impl Play {
             "wait" => self.now = self.now.saturating_add(leading_number(given)?.0),
             "here" => self.desk.here(told)?,
             "gone" => self.desk.gone(told)?,
+            "log" => self.desk.found(&Finding::LogFull(given == "full"), told)?,
+            "hand" => {
+                let reason = String::from_str(self.alloc, given)?;
+                self.desk.found(&Finding::Clocks(reason), told)?;
+            }
             "server" => self.desk.heard(given, wire, told)?,
             "tag" => self.tags.set(given)?,
             "clocks" => self.tags.set_clocks(given)?,

@@ -3,7 +3,7 @@ use crate::browser::{file_of, site_of};
 use crate::peer::{MANY, PINGS, Peer};
 use lobby_desk::{Halts, Limits, Order};
 use lobby_loop::{
-    Acceptor, ActLog, Fault, Hall, KeepsLinks, NoActLog, NoLinks, Roll, Welcomed, welcome,
+    Acceptor, ActLog, Comers, Fault, Hall, KeepsLinks, NoActLog, NoLinks, Roll, Welcomed, welcome,
 };
 use lobby_players::carried_out;
 use lobby_web::Kind;
@@ -124,6 +124,7 @@ fn hall_of(rt: &impl Abort, alloc: Global, keys: RandomState, is_paused: bool) -
         can_stop: false,
         reason: String::new(alloc),
         announced: String::new(alloc),
+        is_full: false,
     };
     Hall::new(alloc, keys, site, players, halts, limits, None)
 }
@@ -536,7 +537,7 @@ fn check_look(rt: &impl Abort, lab: &mut Lab, came: usize, at: u64, front: &[u8]
     for _ in 0..came {
         assert!(rt; lab.hall.next_key().is_some());
     }
-    lab.hall.see_comers(at);
+    lab.hall.see_comers(&mut Comers::new(), at);
     assert!(rt; lab.turn(rt, 4, 1).is_none());
     assert!(rt; lab.is_told(front));
 }
@@ -879,6 +880,47 @@ fn who_was_read_keeps_nobody_out(rt: &impl Abort, lab: &mut Lab) {
     }
 }
 
+// Ann shows her token, and acts then.
+const RESIGNER: &[u8] =
+    b"UP~\x81\xa6\0\0\0\0login aaaaaaaaaaaaaaaaaaaaaaaaaaaaaaaa~~\x81\x88\0\0\0\0resign 7";
+
+// What the server is sent where she does so five times.
+const FIVE_ACTS: &[u8] =
+    b"name ann\nresign 7\nshow 7\nfen 7\nresign 7\nshow 7\nfen 7\nresign 7\nshow 7\nfen 7\n\
+    resign 7\nshow 7\nfen 7\nresign 7\nshow 7\nfen 7\n";
+
+// Turns of five connections at a moment, with all sockets awake.
+fn turn_five(rt: &impl Abort, lab: &mut Lab, at: u64) {
+    for _ in 0..40 {
+        lab.turn_alone(rt, at);
+        for key in 2..7 {
+            lab.hall.wake(key);
+        }
+        lab.hall.wake_server();
+    }
+}
+
+// Of five connections that act for one player three do so at once, and then one each 50 ms; the hall wakes for that.
+fn a_player_acts_at_one_pace_by_all_connections(rt: &impl Abort, lab: &mut Lab) {
+    lab.begin(rt, &(RESIGNER, b"", How::Plainly));
+    for key in 3..7 {
+        lab.hall
+            .admit(Peer::new(lab.alloc, RESIGNER, 1_000), key, NEAR, 0);
+    }
+    let looks = [
+        (0, 75, 50),
+        (49, 75, 50),
+        (50, 97, 100),
+        (99, 97, 100),
+        (100, 119, 5_000),
+    ];
+    for (at, count, next) in looks {
+        turn_five(rt, lab, at);
+        assert!(rt; lab.is_asked(FIVE_ACTS.get(..count).unwrap_or(b"")));
+        assert!(rt; lab.hall.look_at(at) == Some(next));
+    }
+}
+
 #[test]
 fn halls(rt: HostRuntime) {
     let alloc = rt.alloc();
@@ -914,5 +956,6 @@ fn halls(rt: HostRuntime) {
     what_comes_of_strangers_is_paid(&rt, &mut lab);
     a_move_goes_out_beside_requests_without_end(&rt, &mut lab);
     who_was_read_keeps_nobody_out(&rt, &mut lab);
+    a_player_acts_at_one_pace_by_all_connections(&rt, &mut lab);
     drop(lab);
 }

@@ -1,5 +1,5 @@
-//! Tests of the files and texts of a night and of a lobby, by what their crates export alone: so none of these is
-//! proved twice.
+//! Tests of the files and texts of a night, and of the club's command line, by what their crates export alone: so none
+//! of these is proved twice.
 #![tactic(auto)]
 
 #[cfg(test)]
@@ -13,8 +13,6 @@ mod beside;
 #[cfg(test)]
 mod clerk;
 #[cfg(test)]
-mod club_files;
-#[cfg(test)]
 mod cuts;
 #[cfg(test)]
 mod dates;
@@ -24,8 +22,6 @@ mod exports;
 mod headings;
 #[cfg(test)]
 mod moves;
-#[cfg(test)]
-mod players;
 #[cfg(test)]
 mod positions;
 #[cfg(test)]

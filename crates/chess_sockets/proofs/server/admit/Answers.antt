@@ -3,7 +3,7 @@ use Rattle.std.proofs.Common.{◌∙◌, [], ◌∷◌, ◌++◌, ap, subst, sym
 use Rattle.chess_hub.specs.Calls.{Connected}
 use Rattle.chess_sockets.proofs.ServingLemmas.{one_step, stays-refl}
 use Rattle.chess_sockets.proofs.server.admit.Goals as goal
-use Rattle.chess_hub.specs.Law.{state_of}
+use Rattle.chess_hub.specs.Law.{hub_state}
 
 pub returns-clause-welcomes : goal.returns-clause-welcomes
 returns-clause-welcomes g c =
@@ -14,7 +14,7 @@ returns-clause-welcomes g c =
       came = client ∷ [];
       whole = c.push_reserved.ensures.items ∙ ap (λ l. l ++ client ∷ []) c.reserve.ensures.items;
       welcomed = (
-        one_step (state_of old.sessions old.store.table) (state_of new.sessions new.store.table) (Connected client.sid)
+        one_step (hub_state old) (hub_state new) (Connected client.sid)
             (rw c.new.ensures.sid (c.in-Ok-connect.ensures.new, c.in-Ok-connect.ensures.opened, ap (λ s. s.table) c.connect.ensures.store)),
         record {
           connection = c.args.connection;
@@ -34,7 +34,7 @@ pub returns-in-Err-clause-welcomes : goal.returns-in-Err-clause-welcomes
 returns-in-Err-clause-welcomes g c = record {
   came = [];
   whole = c.reserve.ensures.items ∙ sym (append-nil c.args.clients.now.items);
-  welcomed = stays-refl (state_of c.args.hub.now.sessions c.args.hub.now.store.table);
+  welcomed = stays-refl (hub_state c.args.hub.now);
 }
 
 pub returns-in-Err-connect-clause-welcomes : goal.returns-in-Err-connect-clause-welcomes

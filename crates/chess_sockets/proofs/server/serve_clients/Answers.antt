@@ -11,7 +11,7 @@ use Rattle.chess_sockets.proofs.server.serve_clients.Goals as goal
 use Rattle.chess_hub.specs.Storing.{StoreMayBeAsked, StoreRefuses}
 use Rattle.chess_sockets.specs.Rounds.{times}
 use Rattle.chess_sockets.specs.Turns.{IsRefusal}
-use Rattle.chess_hub.specs.Law.{state_of}
+use Rattle.chess_hub.specs.Law.{state_of, hub_state, hub_store, hub_refusals}
 
 -- ---- who is served
 
@@ -24,20 +24,21 @@ returns-clause-served g c =
     let read = c.take_in_all-has_read.new.clients.items in
     let last = c.hand_out_all-has_written.new.clients.items in
     let when = times c.args.reading.at c.args.reading.silence in
-    let serves : HasServed g.S.Read.remaining g.S.Write.contents when (StoreMayBeAsked old.store)
-    (served c.args.clients.now.items (state_of old.sessions old.store.table))
-    (served last (state_of written.sessions written.store.table)) =
+    let serves : HasServed g.S.Read.remaining g.S.Write.contents when (StoreMayBeAsked (hub_store old))
+    (served c.args.clients.now.items (hub_state old))
+    (served last (hub_state written)) =
     rw (c.hand_out_all-has_written.ensures.store, sym c.take_in_all-has_read.ensures.store)
     (record {
-      answered = served read (state_of answered.sessions answered.store.table);
+      answered = served read (hub_state answered);
       answers = record {
-        heard = state_of heard.sessions heard.store.table;
-        reads = are_read heard.store.table g.S.Read.remaining c.args.reading.silence c.args.reading.at c.args.clients.now.items read old.sessions heard.sessions
+        heard = hub_state heard;
+        reads = are_read (hub_state heard).table g.S.Read.remaining c.args.reading.silence c.args.reading.at
+            c.args.clients.now.items read old.sessions heard.sessions
             c.take_in_all-has_read.ensures.read;
         turned = of_answered c.turn.result tt c.in_default.is c.turn.ensures.turned;
         works = of_answered c.turn.result tt c.in_default.is c.turn.ensures.works;
       };
-      writes = are_written answered.store.table g.S.Write.contents read last answered.sessions written.sessions
+      writes = are_written (hub_state answered).table g.S.Write.contents read last answered.sessions written.sessions
           c.hand_out_all-has_written.ensures.written;
     }) in
     serves
@@ -53,8 +54,8 @@ returns-clause-more g c = λ is. some_there c.take_in_all-has_read.result c.hand
 
 pub returns-in-Err-clause-lasts : goal.returns-in-Err-clause-lasts
 returns-in-Err-clause-lasts g c =
-    let s = c.take_in_all-has_read.new.hub.store in
-    let n = c.turn.new.self.store in
+    let s = hub_store c.take_in_all-has_read.new.hub in
+    let n = hub_store c.turn.new.self in
     let state = g.D.Device.state in
     rw (sym c.take_in_all-has_read.ensures.store)
     (λ kept. lasts_refused c.turn.result c.in-Err.fault (state s.journal.device) (state n.journal.device)
@@ -62,8 +63,8 @@ returns-in-Err-clause-lasts g c =
 
 pub returns-clause-lasts : goal.returns-clause-lasts
 returns-clause-lasts g c =
-    let s = c.take_in_all-has_read.new.hub.store in
-    let n = c.turn.new.self.store in
+    let s = hub_store c.take_in_all-has_read.new.hub in
+    let n = hub_store c.turn.new.self in
     let state = g.D.Device.state in
     rw (c.hand_out_all-has_written.ensures.store, sym c.take_in_all-has_read.ensures.store)
     (λ kept. lasts_over c.turn.result tt _ (state s.journal.device) (state n.journal.device) n.journal.header
@@ -73,8 +74,8 @@ returns-clause-lasts g c =
 
 pub returns-in-Err-clause-fault : goal.returns-in-Err-clause-fault
 returns-in-Err-clause-fault g c =
-    let s = c.take_in_all-has_read.new.hub.store in
-    let n = c.turn.new.self.store in
+    let s = hub_store c.take_in_all-has_read.new.hub in
+    let n = hub_store c.turn.new.self in
     let heard = c.take_in_all-has_read.new.hub.sessions in
     turn_ends (n ≡ s) c.args.reading.at heard s.journal.header.seq s.failed s.table n.table c.in-Err.fault
     (IfErr-at_err (λ fault. IsTurnFault fault (n ≡ s) (λ refused. AsksFor c.args.reading.at 64 heard
@@ -83,13 +84,13 @@ returns-in-Err-clause-fault g c =
 pub returns-in-Err-clause-refused : goal.returns-in-Err-clause-refused
 returns-in-Err-clause-refused g c =
     let old = c.args.hub.now in
-    let s = c.take_in_all-has_read.new.hub.store in
-    let n = c.turn.new.self.store in
+    let s = hub_store c.take_in_all-has_read.new.hub in
+    let n = hub_store c.turn.new.self in
     let heard = c.take_in_all-has_read.new.hub.sessions in
     let read = c.take_in_all-has_read.new.clients.items in
     let when = times c.args.reading.at c.args.reading.silence in
-    let refusal : IsRefusal g.S.Read.remaining when (StoreRefuses old.store n) c.in-Err.fault
-    (served c.args.clients.now.items (state_of old.sessions old.store.table))
+    let refusal : IsRefusal g.S.Read.remaining when (StoreRefuses (hub_store old) n) c.in-Err.fault
+    (served c.args.clients.now.items (hub_state old))
     (served read (state_of c.turn.new.self.sessions n.table)) =
     rw (sym c.take_in_all-has_read.ensures.store)
     (turn_refusal (n ≡ s) c.args.reading.at heard s.journal.header.seq s.failed s.table n.table _ c.args.reading.silence
@@ -107,8 +108,8 @@ pub returns-in-Err-clause-cause_err : goal.returns-in-Err-clause-cause_err
 returns-in-Err-clause-cause_err g c =
     let failures = g.D.Device.failures in
     rw (sym c.take_in_all-has_read.ensures.store)
-    (IfErr-at_err (λ fault. CountsFault fault (failures c.take_in_all-has_read.new.hub.store.journal.device)
-    (failures c.turn.new.self.store.journal.device)) c.in-Err.is c.turn.ensures.tried.cause_err)
+    (IfErr-at_err (λ fault. CountsFault fault (failures (hub_store c.take_in_all-has_read.new.hub).journal.device)
+    (failures (hub_store c.turn.new.self).journal.device)) c.in-Err.is c.turn.ensures.tried.cause_err)
 
 -- ---- the count of refusals
 
@@ -116,11 +117,12 @@ pub returns-in-Err-clause-counts : goal.returns-in-Err-clause-counts
 returns-in-Err-clause-counts g c =
     rw (sym c.take_in_all-has_read.ensures.refusals)
     (counts_refused {T = Bool} c.turn.result (Err c.in-Err.fault) c.in-Err.fault
-    c.in-Err.fault c.take_in_all-has_read.new.hub.refusals c.turn.new.self.refusals c.in-Err.is refl refl c.turn.ensures.counts)
+    c.in-Err.fault (hub_refusals c.take_in_all-has_read.new.hub) (hub_refusals c.turn.new.self) c.in-Err.is refl refl
+    c.turn.ensures.counts)
 
 pub returns-clause-counts : goal.returns-clause-counts
 returns-clause-counts g c =
     c.hand_out_all-has_written.ensures.refusals
-    ∙ counts_done c.turn.result tt c.take_in_all-has_read.new.hub.refusals c.turn.new.self.refusals c.in_default.is
-    c.turn.ensures.counts
+    ∙ counts_done c.turn.result tt (hub_refusals c.take_in_all-has_read.new.hub) (hub_refusals c.turn.new.self)
+    c.in_default.is c.turn.ensures.counts
     ∙ c.take_in_all-has_read.ensures.refusals

@@ -1,41 +1,64 @@
 -- It is read for first, and then heard, or what stands in front waits.
-use Rattle.std.proofs.Common.{inl, inr, refl, ap}
+use Rattle.std.proofs.Common.{Bool, true, false, inl, inr, refl, ap, subst}
 use Rattle.lobby_guests.specs.declared.rounds.Asks.{Asks}
-use Rattle.lobby_guests.specs.Guests.{IsHeardNow, IsPlayerHeard}
-use Rattle.lobby_guests.specs.Rounds.{room_of}
+use Rattle.lobby_guests.specs.Guests.{IsHeardNow, IsPaced, IsPlayerHeard}
+use Rattle.lobby_guests.specs.Rounds.{room_of, IsToAsk}
 use Rattle.lobby_guests.proofs.guests.serve_player.Goals as goal
 
-pub returns-then-not-is_to_ask : goal.returns-then-not-is_to_ask
-returns-then-not-is_to_ask g c = record {
-  read = c.read_in-has_read.new.self;
-  reads = c.read_in-has_read.ensures.read;
-  pays = c.read_in-has_read.ensures.paid;
-  hears = inr (inr (inr (record {
-    other = c.if-not-is_to_ask.ensures.0;
-    guest = refl;
-    rest = ap (λ (a : Asks). room_of c.args.talk.now a) c.if-not-is_to_ask.ensures.1;
-  })));
-}
+pub returns-then-not-is_asked : goal.returns-then-not-is_asked
+returns-then-not-is_asked g c =
+    let read = c.read_in-has_read.new.self in
+    let talk = c.args.talk.now in
+    let asks = c.is_to_ask-is_asked.new.asks in
+    let asked : IsToAsk false talk c.args.at read c.args.asks.now asks =
+    subst (λ (b : Bool). IsToAsk b talk c.args.at read c.args.asks.now asks) c.if-not-is_asked.true c.in_ok-is_asked.ensures in
+    let hears : IsPlayerHeard c.args.at read read (room_of talk c.args.asks.now) (room_of talk asks) = elim asked [
+      | inl ahead ↦ inr (inl ahead)
+      | inr (other, same) ↦ inr (inr (record {
+        other = other;
+        guest = refl;
+        rest = ap (λ (a : Asks). room_of talk a) same;
+      }))
+    ] in
+    record {
+      read = read;
+      reads = c.read_in-has_read.ensures.read;
+      pays = c.read_in-has_read.ensures.paid;
+      hears = hears;
+    }
 
 pub returns : goal.returns
 returns g c =
-    let heard : IsHeardNow c.args.at c.read_in-has_read.new.self c.hear.new.self c.args.talk.now c.hear.new.talk = record {
+    let read = c.read_in-has_read.new.self in
+    let talk = c.args.talk.now in
+    let asks = c.is_to_ask-is_asked.new.asks in
+    let asked : IsToAsk true talk c.args.at read c.args.asks.now asks =
+    subst (λ (b : Bool). IsToAsk b talk c.args.at read c.args.asks.now asks) c.if-not-is_asked.false
+    c.in_ok-is_asked.ensures in
+    let paced : IsPaced c.args.at read (room_of talk c.args.asks.now) (room_of c.hear.new.talk asks) = record {
+      in_time = asked.0.in_time;
+      is_taken = asked.0.is_taken;
+      taken = asked.0.taken;
+      pays = asked.0.pays;
+      next_act = asked.0.next_act;
+    } in
+    let heard : IsHeardNow c.args.at read c.hear.new.self talk c.hear.new.talk = record {
       heard = c.in_ok-has_heard.ensures.heard;
       asks = c.in_ok-has_heard.ensures.asks;
       waits = c.in_ok-has_heard.ensures.waits;
       owes = c.in_ok-has_heard.ensures.owes;
     } in
-    let hears : IsPlayerHeard c.args.at c.read_in-has_read.new.self c.hear.new.self (room_of c.args.talk.now c.args.asks.now)
-    (room_of c.hear.new.talk c.is_to_ask.new.asks) = elim c.if-not-is_to_ask.ensures [
-      | inl (act, same) ↦ inl (record {
-        act = act;
-        heard = heard;
-        left = ap (λ (a : Asks). a.round.left) same;
-        asker = ap (λ (a : Asks). a.asker) same;
-      })
-      | inr turn ↦ elim turn [
-        | inl (brief, less, asker) ↦ inr (inl (record { brief = brief; heard = heard; takes = less; asker = asker }))
-        | inr (answered, some, last, asker) ↦ inr (inr (inl (record {
+    let hears : IsPlayerHeard c.args.at read c.hear.new.self (room_of talk c.args.asks.now) (room_of c.hear.new.talk asks) =
+    elim asked.1 [
+      | inl (act, left, asker) ↦ inl (paced, inl (record { act = act; heard = heard; left = left; asker = asker }))
+      | inr one ↦ elim one [
+        | inl (brief, less, asker) ↦ inl (paced, inr (inl (record {
+          brief = brief;
+          heard = heard;
+          takes = less;
+          asker = asker;
+        })))
+        | inr (answered, some, last, asker) ↦ inl (paced, inr (inr (record {
           answered = answered;
           heard = heard;
           some = some;
@@ -45,7 +68,7 @@ returns g c =
       ]
     ] in
     record {
-      read = c.read_in-has_read.new.self;
+      read = read;
       reads = c.read_in-has_read.ensures.read;
       pays = c.read_in-has_read.ensures.paid;
       hears = hears;

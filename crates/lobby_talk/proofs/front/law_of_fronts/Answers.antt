@@ -1,5 +1,11 @@
-use Rattle.lobby_talk.proofs.Fronts.{begins_as_act}
+use Rattle.lobby_talk.proofs.Fronts.{begins_as_act, begins_as_none, begins_not_brief}
 use Rattle.lobby_talk.proofs.front.law_of_fronts.Goals as goal
 
-pub returns : goal.returns
-returns c = λ text word long. begins_as_act text word long
+pub returns-clause-hasty : goal.returns-clause-hasty
+returns-clause-hasty c = λ text word long. begins_as_act text word long
+
+pub returns-clause-others : goal.returns-clause-others
+returns-clause-others c = λ text word. begins_as_none text word
+
+pub returns-clause-long : goal.returns-clause-long
+returns-clause-long c = λ text word. begins_not_brief text word

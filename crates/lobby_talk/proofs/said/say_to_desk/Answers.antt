@@ -26,3 +26,10 @@ returns-clause-decided g c =
     let shown = c.unwrap_or-shown.result.now in
     let both = shown_of _ text c.from_utf8.result _ c.unwrap_or-shown.result c.from_utf8.ensures.cases refl c.unwrap_or-shown.ensures in
     on_ok_weaker c.say.result (λ is. (shown, both.0, both.1, is)) c.say.ensures.decided
+
+pub returns-clause-changed : goal.returns-clause-changed
+returns-clause-changed g c =
+    let text = c.args.text.now in
+    let shown = c.unwrap_or-shown.result.now in
+    let both = shown_of _ text c.from_utf8.result _ c.unwrap_or-shown.result c.from_utf8.ensures.cases refl c.unwrap_or-shown.ensures in
+    on_ok_weaker c.say.result (λ is. (shown, both.0, both.1, is)) c.say.ensures.changed

@@ -6,19 +6,19 @@ use Rattle.chess_sockets.proofs.ServingLemmas.{away_counted, client_counted, nob
 use Rattle.chess_sockets.proofs.server.Server.welcome.Given.{Over}
 use Rattle.chess_sockets.proofs.server.Server.welcome.Goals.{After-next_connection}
 use Rattle.chess_sockets.proofs.server.Server.welcome.Goals as goal
-use Rattle.chess_hub.specs.Law.{state_of}
+use Rattle.chess_hub.specs.Law.{hub_state}
 
 pub returns-then-not-asks_for_one-clause-welcomes : goal.returns-then-not-asks_for_one-clause-welcomes
 returns-then-not-asks_for_one-clause-welcomes g c =
     let s = c.args.self.now in
     nobody_came g.S.From.from_gives c.args.at s.listener.given s.listener.given s.turned_away s.clients.items
-    (state_of s.hub.sessions s.hub.store.table) refl
+    (hub_state s.hub) refl
 
 pub returns-in-None-clause-welcomes : goal.returns-in-None-clause-welcomes
 returns-in-None-clause-welcomes g c =
     let s = c.args.self.now in
     nobody_came g.S.From.from_gives c.args.at s.listener.given c.next_connection.new.listener.given s.turned_away s.clients.items
-    (state_of s.hub.sessions s.hub.store.table) c.in-None.ensures.none
+    (hub_state s.hub) c.in-None.ensures.none
 
 pub returns-then-admit-clause-welcomes : goal.returns-then-admit-clause-welcomes
 returns-then-admit-clause-welcomes g c =

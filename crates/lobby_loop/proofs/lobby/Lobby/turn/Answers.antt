@@ -19,4 +19,5 @@ returns-clause-turned g c =
       },
       turned.1 ∙ ap (λ n. nat_lt c.args.at n) (c.welcome.ensures.short ∙ c.reach_server.ensures.short ∙ c.hold.ensures.short),
       turned.2,
+      turned.3,
     )
