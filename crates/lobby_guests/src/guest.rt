@@ -28,8 +28,8 @@ use crate::place::{Place, Role, is_gone, number_of};
 use crate::waiting::{Waiting, is_line};
 use lobby_desk::{Kind, Message};
 use lobby_talk::{
-    Asked, Coming, Counts, Gone, KeepsLinks, KeptAnswer, NOTHING_ASKED, PIECE_ROOM, Talk, is_answer,
-    is_refused_login, say_to_desk, write_piece,
+    Asked, Coming, Counts, Gone, KeepsLinks, KeptAnswer, NOTHING_ASKED, PIECE_ROOM, Talk,
+    is_answer, is_refused_login, say_to_desk, write_piece,
 };
 use lobby_web::{Browser, Heard, Site, Unsaid};
 use player_name::Name;

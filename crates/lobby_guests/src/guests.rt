@@ -120,12 +120,7 @@ fn has_paid_turn<S>(
 }
 
 // Whether a player's browser is asked what came next: where it is its turn, and its player may act if it may be an act.
-fn is_to_ask<S>(
-    guest: &Guest<S>,
-    asks: &mut Asks,
-    talk: &Talk,
-    at: u64,
-) -> Result<bool, AllocError>
+fn is_to_ask<S>(guest: &Guest<S>, asks: &mut Asks, talk: &Talk, at: u64) -> Result<bool, AllocError>
     ensures { IfOk result (λ is_asked. IsToAsk is_asked talk.now at guest.now asks.old asks.new) }
 {
     if may_be_act(guest.unread()) {
@@ -474,8 +469,9 @@ fn write_others<S: Read + Write>(
     let mut any = false;
     round.begin(WRITTEN_MOST);
     for guest in guests.iter_mut() {
-        let is_turn =
-            round.is_at(guest.key()) && guest.to_write() > 0 && !talk.acts(guest.number());
+        let is_turn = round.is_at(guest.key())
+            && guest.to_write() > 0
+            && !talk.acts(guest.number());
         if is_turn {
             round.take(guest.key());
         }

@@ -4,7 +4,8 @@ ghost use Rattle.std.specs.String.{string_bytes};
 ghost use Rattle.lobby_players.specs.Halts as spec;
 
 use lobby_words::{
-    Call, Plan, Refusal, as_line, cut_word, is_decision, is_of_clocks, is_pair, joins_game, opens_game,
+    Call, Plan, Refusal, as_line, cut_word, is_decision, is_of_clocks, is_pair, joins_game,
+    opens_game,
 };
 use std::alloc::{AllocError, Global};
 
@@ -43,16 +44,15 @@ fn full_word(is_full: bool) -> &'static str
 fn full_line(is_full: bool) -> &'static str
     ensures { result.now ≡ spec.full_line is_full }
 {
-    if is_full { "log full\n" } else { "log goes on\n" }
+    if is_full {
+        "log full\n"
+    } else {
+        "log goes on\n"
+    }
 }
 
 // A reason behind this front, as a line, or where there is none this line.
-fn with_reason(
-    alloc: Global,
-    front: &str,
-    reason: &str,
-    none: &str,
-) -> Result<String, AllocError>
+fn with_reason(alloc: Global, front: &str, reason: &str, none: &str) -> Result<String, AllocError>
     ensures { IfOk result (λ line. string_bytes line ≡ spec.with_reason front.now reason.now none.now) }
 {
     if reason.is_empty() {

@@ -258,20 +258,135 @@ none_begun test text (w ∷ words) none is =
 
 no_acts : AllByRecursion (IsNotFront is_act) (brief_words ++ long_words)
 unfolding is_act
-no_acts =
-    ((refl, λ rest. refl), ((refl, λ rest. refl), ((refl, λ rest. refl), ((refl, λ rest. refl), ((refl, λ rest.
-    refl), ((refl, λ rest. refl), ((refl, λ rest. refl), ((refl, λ rest. refl), ((refl, λ rest. refl), ((refl, λ
-    rest. refl), ((refl, λ rest. refl), ((refl, λ rest. refl), ((refl, λ rest. refl), ((refl, λ rest. refl), ((refl,
-    λ rest. refl), ((refl, λ rest. refl), ((refl, λ rest. refl), ((refl, λ rest. refl), ((refl, λ rest. refl),
-    ((refl, λ rest. refl), ((refl, λ rest. refl), tt)))))))))))))))))))))
+no_acts = (
+  (refl, λ rest. refl),
+  (
+    (refl, λ rest. refl),
+    (
+      (refl, λ rest. refl),
+      (
+        (refl, λ rest. refl),
+        (
+          (
+            refl,
+            λ rest.
+                refl,
+          ),
+          (
+            (refl, λ rest. refl),
+            (
+              (refl, λ rest. refl),
+              (
+                (refl, λ rest. refl),
+                (
+                  (refl, λ rest. refl),
+                  (
+                    (
+                      refl,
+                      λ
+                          rest. refl,
+                    ),
+                    (
+                      (refl, λ rest. refl),
+                      (
+                        (refl, λ rest. refl),
+                        (
+                          (refl, λ rest. refl),
+                          (
+                            (refl, λ rest. refl),
+                            (
+                              (
+                                refl,
+                                λ rest. refl,
+                              ),
+                              (
+                                (refl, λ rest. refl),
+                                (
+                                  (refl, λ rest. refl),
+                                  (
+                                    (refl, λ rest. refl),
+                                    (
+                                      (refl, λ rest. refl),
+                                      ((refl, λ rest. refl), ((refl, λ rest. refl), tt)),
+                                    ),
+                                  ),
+                                ),
+                              ),
+                            ),
+                          ),
+                        ),
+                      ),
+                    ),
+                  ),
+                ),
+              ),
+            ),
+          ),
+        ),
+      ),
+    ),
+  ),
+)
 
 none_brief : AllByRecursion (IsNotFront is_brief) long_words
 unfolding is_brief
-none_brief =
-    ((refl, λ rest. refl), ((refl, λ rest. refl), ((refl, λ rest. refl), ((refl, λ rest. refl), ((refl, λ rest.
-    refl), ((refl, λ rest. refl), ((refl, λ rest. refl), ((refl, λ rest. refl), ((refl, λ rest. refl), ((refl, λ
-    rest. refl), ((refl, λ rest. refl), ((refl, λ rest. refl), ((refl, λ rest. refl), ((refl, λ rest. refl), ((refl,
-    λ rest. refl), tt)))))))))))))))
+none_brief = (
+  (refl, λ rest. refl),
+  (
+    (refl, λ rest. refl),
+    (
+      (refl, λ rest. refl),
+      (
+        (refl, λ rest. refl),
+        (
+          (
+            refl,
+            λ rest.
+                refl,
+          ),
+          (
+            (refl, λ rest. refl),
+            (
+              (refl, λ rest. refl),
+              (
+                (refl, λ rest. refl),
+                (
+                  (refl, λ rest. refl),
+                  (
+                    (
+                      refl,
+                      λ
+                          rest. refl,
+                    ),
+                    (
+                      (refl, λ rest. refl),
+                      (
+                        (refl, λ rest. refl),
+                        (
+                          (refl, λ rest. refl),
+                          (
+                            (refl, λ rest. refl),
+                            (
+                              (
+                                refl,
+                                λ rest. refl,
+                              ),
+                              tt,
+                            ),
+                          ),
+                        ),
+                      ),
+                    ),
+                  ),
+                ),
+              ),
+            ),
+          ),
+        ),
+      ),
+    ),
+  ),
+)
 
 pub begins_as_none : (text : List ℕ) → has_word (brief_words ++ long_words) text ≡ true → is_act (take 5 text) ≡ false
 begins_as_none text is = none_begun is_act text (brief_words ++ long_words) no_acts is

@@ -52,19 +52,25 @@ returns g c =
     elim asked.1 [
       | inl (act, left, asker) ↦ inl (paced, inl (record { act = act; heard = heard; left = left; asker = asker }))
       | inr one ↦ elim one [
-        | inl (brief, less, asker) ↦ inl (paced, inr (inl (record {
-          brief = brief;
-          heard = heard;
-          takes = less;
-          asker = asker;
-        })))
-        | inr (answered, some, last, asker) ↦ inl (paced, inr (inr (record {
-          answered = answered;
-          heard = heard;
-          some = some;
-          last = last;
-          asker = asker;
-        })))
+        | inl (brief, less, asker) ↦ inl (
+          paced,
+          inr (inl (record {
+            brief = brief;
+            heard = heard;
+            takes = less;
+            asker = asker;
+          })),
+        )
+        | inr (answered, some, last, asker) ↦ inl (
+          paced,
+          inr (inr (record {
+            answered = answered;
+            heard = heard;
+            some = some;
+            last = last;
+            asker = asker;
+          })),
+        )
       ]
     ] in
     record {

@@ -10,5 +10,5 @@ returns-clause-changed g c =
     let before = g.K.KeepsLinks.changed c.args.links.now in
     let after = g.K.KeepsLinks.changed c.change-done.new.self in
     let made = subst (λ (full_name : List ℕ). IsMadeIn c.args.order.now full_name done before after) c.full_said.ensures
-        c.change-done.ensures.changed in
+    c.change-done.ensures.changed in
     on_ok_weaker c.say_done.result (λ told. (done, made, told)) c.say_done.ensures.told
