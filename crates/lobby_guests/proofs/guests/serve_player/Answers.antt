@@ -9,7 +9,7 @@ pub returns-then-not-is_asked : goal.returns-then-not-is_asked
 returns-then-not-is_asked g c =
     let read = c.read_in-has_read.new.self in
     let talk = c.args.talk.now in
-    let asks = c.is_to_ask-is_asked.new.asks in
+    let asks = c.is_to_ask.new.asks in
     let asked : IsToAsk false talk c.args.at read c.args.asks.now asks =
     subst (λ (b : Bool). IsToAsk b talk c.args.at read c.args.asks.now asks) c.if-not-is_asked.true c.in_ok-is_asked.ensures in
     let hears : IsPlayerHeard c.args.at read read (room_of talk c.args.asks.now) (room_of talk asks) = elim asked [
@@ -31,7 +31,7 @@ pub returns : goal.returns
 returns g c =
     let read = c.read_in-has_read.new.self in
     let talk = c.args.talk.now in
-    let asks = c.is_to_ask-is_asked.new.asks in
+    let asks = c.is_to_ask.new.asks in
     let asked : IsToAsk true talk c.args.at read c.args.asks.now asks =
     subst (λ (b : Bool). IsToAsk b talk c.args.at read c.args.asks.now asks) c.if-not-is_asked.false
     c.in_ok-is_asked.ensures in
