@@ -9,7 +9,7 @@ import { FinishedView } from './finished.js';
 import { GameView } from './game.js';
 import { HallView, wholeScreen } from './hall.js';
 import { t } from './language.js';
-import { isNoGame, readAct, readPlayers, readRefusal, readRows, readStanding } from './lines.js';
+import { isNoGame, readAct, readDecided, readPlayers, readRefusal, readRows, readStanding } from './lines.js';
 import { byId, make, say, setText } from './make.js';
 import { Offers } from './offers.js';
 import { RoundView } from './round.js';
@@ -59,7 +59,7 @@ class Page {
   connect() {
     const told = {
       opened: (server) => this.opened(server), notice: (lines) => this.notice(lines), clocks: clocksTold,
-      announced: announcedTold, decided: decidedTold, offers: () => this.challenges.look(),
+      announced: announcedTold, decided: (line) => this.decided(line), offers: () => this.challenges.look(),
       log: (isFull) => { byId('log-full').hidden = !isFull; }, changed: () => this.changed(),
       unnamed: () => this.who.unnamed(),
       served: (isServed) => { byId('no-broadcast').hidden = isServed; },
@@ -463,6 +463,12 @@ class Page {
     document.body.classList.toggle('offline', !open || server === 'gone');
     this.shows();
     this.who.render();
+  }
+
+  /** An arbiter has decided a board. */
+  decided(line) {
+    decidedTold(line);
+    this.round.decides(readDecided(line));
   }
 
   /** What stands in the lobby's place may tell why, as that the disk is full. */

@@ -100,7 +100,7 @@ export class Waits {
           called it` });
       }
       const absent = this.desk.absences.words(standing, at);
-      if (absent && standing.left[standing.side] > 0) found.push({ row, kind: 'late', words: absent, standing });
+      if (absent) found.push({ row, kind: 'late', words: absent, standing });
       const offers = SIDES.filter((side) => standing.offer.includes(side)).map(colourWord);
       if (offers.length) {
         const words = offers.length > 1 ? t`White and Black offer a draw` : t`${offers[0]} offers a draw`;

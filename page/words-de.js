@@ -456,6 +456,7 @@ export const WORDS = {
   'by stalemate': 'durch Patt',
   'since neither side can give mate': ', da keine Seite matt setzen kann',
   'by agreement': 'durch Vereinbarung',
+  'by the arbiter’s decision': 'durch Entscheidung des Schiedsrichters',
   'on time': 'durch Zeitüberschreitung',
   'by claim: the position stood for the third time': 'durch Reklamation: die Stellung stand zum dritten Mal',
   'by claim: fifty moves without a capture or a pawn’s move':

@@ -451,6 +451,7 @@ export const WORDS = {
   'by stalemate': 'por ahogado',
   'since neither side can give mate': 'porque ningún bando puede dar mate',
   'by agreement': 'de común acuerdo',
+  'by the arbiter’s decision': 'por decisión del árbitro',
   'on time': 'por tiempo',
   'by claim: the position stood for the third time': 'por reclamación: la posición se dio por tercera vez',
   'by claim: fifty moves without a capture or a pawn’s move':

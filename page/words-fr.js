@@ -459,6 +459,7 @@ export const WORDS = {
   'by stalemate': 'par pat',
   'since neither side can give mate': ', car aucun camp ne peut mater',
   'by agreement': 'par accord mutuel',
+  'by the arbiter’s decision': 'par décision de l’arbitre',
   'on time': 'au temps',
   'by claim: the position stood for the third time': 'sur réclamation : même position pour la troisième fois',
   'by claim: fifty moves without a capture or a pawn’s move':

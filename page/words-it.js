@@ -454,6 +454,7 @@ export const WORDS = {
   'by stalemate': 'per stallo',
   'since neither side can give mate': 'perché nessuno dei due può dare matto',
   'by agreement': 'per accordo',
+  'by the arbiter’s decision': 'per decisione dell’arbitro',
   'on time': 'per il tempo',
   'by claim: the position stood for the third time': 'su reclamo: la posizione si è presentata per la terza volta',
   'by claim: fifty moves without a capture or a pawn’s move':

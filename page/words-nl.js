@@ -454,6 +454,7 @@ export const WORDS = {
   'by stalemate': 'door pat',
   'since neither side can give mate': ', omdat geen van beide spelers mat kan geven',
   'by agreement': 'door overeenkomst',
+  'by the arbiter’s decision': 'door beslissing van de arbiter',
   'on time': 'op tijd',
   'by claim: the position stood for the third time': 'door claim: de stelling kwam voor de derde keer voor',
   'by claim: fifty moves without a capture or a pawn’s move':

@@ -450,6 +450,7 @@ export const WORDS = {
   'by stalemate': 'przez pata',
   'since neither side can give mate': ', bo żadna ze stron nie może dać mata',
   'by agreement': 'za obopólną zgodą',
+  'by the arbiter’s decision': 'decyzją sędziego',
   'on time': 'na czas',
   'by claim: the position stood for the third time': 'na reklamację: pozycja powtórzyła się po raz trzeci',
   'by claim: fifty moves without a capture or a pawn’s move':

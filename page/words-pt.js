@@ -448,6 +448,7 @@ export const WORDS = {
   'by stalemate': 'por afogamento',
   'since neither side can give mate': 'porque nenhum lado pode dar mate',
   'by agreement': 'por comum acordo',
+  'by the arbiter’s decision': 'por decisão do árbitro',
   'on time': 'por tempo',
   'by claim: the position stood for the third time': 'por reclamação: a posição ocorreu pela terceira vez',
   'by claim: fifty moves without a capture or a pawn’s move':
