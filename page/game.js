@@ -262,7 +262,8 @@ export class GameView {
       this.refresh();
       return;
     }
-    const wasOver = Boolean(this.standing && this.standing.article), ended = this.stand(standing);
+    const wasOver = Boolean(this.standing && this.standing.article), wasPlaying = this.isPlaying();
+    const ended = this.stand(standing);
     if (!standing) {
       this.wasTaken = true;
       say(TAKEN_OFF);
@@ -275,6 +276,7 @@ export class GameView {
     if (answer.startsWith('ok ')) this.watchAdjourning(by, sent, arbiter);
     this.tell(by, sent, answer, arbiter);
     if (ended) this.over();            // (a mate is said behind its move)
+    if (!wasPlaying && this.isPlaying() && focused() === byId('game-title')) this.board.focus();
     this.render();
   }
 
