@@ -33,7 +33,10 @@ where
     R: Files<File = File> + AllocGlobal + Eprint + Abort,
 {
     let file = DiskFile::open(rt, FILE).expect(rt, "a file");
-    Some(open_archive(rt, FILE, file).ok()?.archive)
+    match open_archive(rt, FILE, file) {
+        Ok(opened) => Some(opened.archive),
+        Err(_) => None,
+    }
 }
 
 #[test]
