@@ -204,11 +204,17 @@ export class RoundView {
     return player ? player.full : '';
   }
 
+  /** The name of a player, and the way to the games; a team has no page of its own. */
+  seatLink(number) {
+    const { name, full } = this.told.players[number - 1] || { name: '', full: '' };
+    return this.isOfTeams() || !name ? full : make('a', { href: `#/player/${encodeURIComponent(name)}` }, full);
+  }
+
   boardRow({ board, white, black, bye, result, game }) {
     const words = bye ? t`bye` : result !== '*' ? resultText(result) : game ? t`goes on` : t`not begun`;
-    return make('tr', {}, make('td', { class: 'number' }, String(board)), make('td', {}, this.seat(white)),
+    return make('tr', {}, make('td', { class: 'number' }, String(board)), make('td', {}, this.seatLink(white)),
       make('td', { class: 'result' }, game ? make('a', { href: `#/game/${game}` }, words) : words),
-      make('td', {}, bye ? '' : this.seat(black)));
+      make('td', {}, bye ? '' : this.seatLink(black)));
   }
 
   headCells() {
@@ -217,10 +223,9 @@ export class RoundView {
         make('abbr', { title: TITLES[name] || name }, name)))];
   }
 
-  /** A team has no page of its own. */
-  standingRow({ place, full, name, points, values }) {
-    const named = this.isOfTeams() ? full : make('a', { href: `#/player/${encodeURIComponent(name)}` }, full);
-    return make('tr', {}, make('td', { class: 'number' }, String(place)), make('th', { scope: 'row' }, named),
+  standingRow({ place, number, points, values }) {
+    return make('tr', {}, make('td', { class: 'number' }, String(place)),
+      make('th', { scope: 'row' }, this.seatLink(number)),
       make('td', { class: 'number' }, pointsText(points)),
       ...values.map((value) => make('td', { class: 'number' }, pointsText(value))));
   }
@@ -232,7 +237,7 @@ export class RoundView {
 
   /** A player's rounds: the line of the opponent, the colour and what it was worth. */
   crossRow(player, place, places) {
-    return make('tr', {}, make('td', { class: 'number' }, String(place + 1)), make('th', { scope: 'row' }, player.full),
+    return make('tr', {}, make('td', { class: 'number' }, String(place + 1)), make('th', { scope: 'row' }, this.seatLink(player.number)),
       ...this.told.rounds.map((boards) => this.crossCell(player.number, boards, places)));
   }
 

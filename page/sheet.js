@@ -165,13 +165,21 @@ export function drawOutcome(game) {
   setText(place.querySelector('.more'), more);
 }
 
+/** Who sits there, and the way to the player's games, but for who plays: no click there leaves the board. */
+function drawSeat(game, place, name) {
+  const words = name ? game.app.nameWords(name) : t`free seat`, had = place.querySelector('a');
+  const href = name && !game.isPlaying() ? `#/player/${encodeURIComponent(name)}` : '';
+  if (place.textContent === words && (had ? had.getAttribute('href') : '') === href) return;
+  place.replaceChildren(href ? make('a', { href }, words) : words);
+}
+
 export function drawFacts(game) {
   const { white, black } = game.standing, times = readTimes(game.tags.TimeControl || '');
   setText(byId('game-title'), t`Game ${game.number}`);
   setText(byId('game-times'), timesWords(times));
   byId('game-times').title = timesInFull(times);
-  setText(byId('game-white'), white ? game.app.nameWords(white) : t`free seat`);
-  setText(byId('game-black'), black ? game.app.nameWords(black) : t`free seat`);
+  drawSeat(game, byId('game-white'), white);
+  drawSeat(game, byId('game-black'), black);
   setText(byId('game-start'), game.tags.FEN ? t`From a position` : '');
   setText(byId('game-kept'), game.keptWords());
   setText(byId('game-board'), game.app.round.boardWords(game.number));

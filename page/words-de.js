@@ -671,6 +671,8 @@ export const WORDS = {
   'Play': 'Ziehen',
   'Take off the table': 'Vom Tisch nehmen',
   'the same position stands for the third time (9.2)': 'dieselbe Stellung steht zum dritten Mal (9.2)',
+  'In your turn: a position for the third time, or fifty moves each without a capture or a pawn’s move':
+    'Wenn du am Zug bist: eine Stellung zum dritten Mal, oder je fünfzig Züge ohne Schlagen und Bauernzug',
   'Keep it': 'Behalten',
   'Claim a draw': 'Remis reklamieren',
   'Copy the game’s link': 'Link der Partie kopieren',

@@ -676,6 +676,8 @@ export const WORDS = {
   'Play': 'Jouer',
   'Take off the table': 'Retirer de la liste',
   'the same position stands for the third time (9.2)': 'la même position pour la troisième fois (9.2)',
+  'In your turn: a position for the third time, or fifty moves each without a capture or a pawn’s move':
+    'À votre tour : une position pour la troisième fois, ou cinquante coups de chaque camp sans prise ni coup de pion',
   'Keep it': 'Garder',
   'Claim a draw': 'Réclamer la nulle',
   'Copy the game’s link': 'Copier le lien de la partie',

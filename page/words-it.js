@@ -670,6 +670,8 @@ export const WORDS = {
   'Play': 'Gioca',
   'Take off the table': 'Togli dall’elenco',
   'the same position stands for the third time (9.2)': 'la stessa posizione per la terza volta (9.2)',
+  'In your turn: a position for the third time, or fifty moves each without a capture or a pawn’s move':
+    'Al tuo turno: una posizione per la terza volta, o cinquanta mosse per parte senza catture né mosse di pedone',
   'Keep it': 'Conserva',
   'Claim a draw': 'Reclama la patta',
   'Copy the game’s link': 'Copia il link della partita',

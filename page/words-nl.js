@@ -671,6 +671,8 @@ export const WORDS = {
   'Play': 'Spelen',
   'Take off the table': 'Van de lijst halen',
   'the same position stands for the third time (9.2)': 'dezelfde stelling voor de derde keer (9.2)',
+  'In your turn: a position for the third time, or fifty moves each without a capture or a pawn’s move':
+    'Als je aan zet bent: een stelling voor de derde keer, of elk vijftig zetten zonder slaan en zonder pionzet',
   'Keep it': 'Bewaren',
   'Claim a draw': 'Remise claimen',
   'Copy the game’s link': 'Link van de partij kopiëren',

@@ -662,6 +662,8 @@ export const WORDS = {
   'Play': 'Zagraj',
   'Take off the table': 'Usuń z listy',
   'the same position stands for the third time (9.2)': 'ta sama pozycja po raz trzeci (9.2)',
+  'In your turn: a position for the third time, or fifty moves each without a capture or a pawn’s move':
+    'Gdy ruch należy do ciebie: pozycja po raz trzeci albo po pięćdziesiąt posunięć bez bicia i ruchu pionka',
   'Keep it': 'Zachowaj',
   'Claim a draw': 'Reklamacja remisu',
   'Copy the game’s link': 'Kopiuj link do partii',

@@ -663,6 +663,8 @@ export const WORDS = {
   'Play': 'Jogar',
   'Take off the table': 'Retirar da lista',
   'the same position stands for the third time (9.2)': 'a mesma posição pela terceira vez (9.2)',
+  'In your turn: a position for the third time, or fifty moves each without a capture or a pawn’s move':
+    'Na sua vez: uma posição pela terceira vez, ou cinquenta lances de cada lado sem captura nem movimento de peão',
   'Keep it': 'Guardar',
   'Claim a draw': 'Reclamar empate',
   'Copy the game’s link': 'Copiar o link da partida',

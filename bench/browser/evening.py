@@ -580,7 +580,7 @@ def the_board_stays(hall):
     ann.is_so([person.run(place) for person in (ann, bob)] == stood, 'each board is where it was')
     well_on_screens(ann, 'news over a game', '.news .banner')
     ann.screen(360, 740, 1, True)
-    covered = '''return [...document.querySelectorAll('.top nav a, .top summary, .top button')].filter((e) => {
+    covered = '''return [...document.querySelectorAll('.top nav a, .top summary, .tools > button')].filter((e) => {
         const { x, y, width, height } = e.getBoundingClientRect();
         return width && !e.contains(document.elementFromPoint(x + width / 2, y + height / 2)); }).map((e) => e.id)'''
     ann.until(lambda: ann.run(covered) == [], 'on a phone it leaves the head free')
