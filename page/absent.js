@@ -19,6 +19,7 @@ export class Absences {
     this.isHere = isHere;
     this.late = new Set();             // the game's number and the side of who was not here when the time was over
     this.times = new Map();            // number -> the game's times, null where they are not told
+    this.fallen = new Map();           // number -> the moment at which a flag was first seen fallen, and the clock stands
     this.field = byId('default-time');
     this.field.value = read(local, KEY) || '';
     this.field.addEventListener('input', () => {
@@ -47,10 +48,12 @@ export class Absences {
 
   /** For how many milliseconds both clocks have run in a game that stood so at the moment `at`, before both have moved;
    * null where its times are not known. */
-  ran({ number, ply, left }, at) {
+  ran({ number, ply, side: mover, left }, at) {
     const times = this.times.get(number);
     if (!times) return null;
-    const gone = (side) => SECOND * times.initial - left[side], since = stopped ? 0 : performance.now() - at;
+    if (left[mover] === 0 && !this.fallen.has(number)) this.fallen.set(number, at);
+    const from = left[mover] === 0 ? this.fallen.get(number) : at, since = stopped ? 0 : performance.now() - from;
+    const gone = (side) => SECOND * times.initial - left[side];
     return Math.max(0, since + (ply === 0 ? gone('w') : gone('w') + SECOND * times.increment + gone('b')));
   }
 

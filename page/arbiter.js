@@ -15,11 +15,12 @@ import { Openings } from './openings.js';
 import { Pairing } from './pairing.js';
 import { plain } from './plain.js';
 import { Question } from './question.js';
+import { resultText } from './round.js';
 import { stopped } from './stopped.js';
 import { Waits } from './waits.js';
 import {
-  AGREED, NO_GAME, OTHER, SIDES, actWords, arbiterWords, colourWord, lawWords, refusalWords, resultWords, sanShown,
-  withReason,
+  AGREED, NO_GAME, OTHER, SIDES, actWords, arbiterWords, colourWord, decidedWords, lawWords, refusalWords, resultWords,
+  sanShown, withReason,
 } from './words.js';
 
 const MOST = 12;                     // games on a page: each that runs is watched
@@ -409,9 +410,8 @@ export class ArbiterView {
       card.clocks[side].set({ left: standing.left[side], at, running: runs && standing.side === side });
       card.seats[side].classList.toggle('turn', runs && standing.side === side);
     }
-    setText(card.state, this.stateWords(card));
     setText(card.last, card.act ? t`Last: ${card.act}` : '');
-    this.renderLaw(card);
+    this.renderResult(card);
     card.root.classList.toggle('done', card.isOver);
     this.renderActs(card);
     this.renderAway(card);
@@ -421,9 +421,10 @@ export class ArbiterView {
     return this.app.nameWords(side === 'w' ? card.standing.white : card.standing.black);
   }
 
-  stateWords({ standing: { white, black, side, offer, result, article }, clocks }) {
+  stateWords({ number, standing: { white, black, side, offer, result, article }, clocks }) {
     if (article) {
-      const words = resultWords(result, article);
+      const words = resultWords(result, article), decided = this.app.round.decided(number, result);
+      if (decided) return `${resultText(decided.result)} ${decidedWords(decided.result)}`;
       return `${words.score} ${withReason(words.result, words.reason)}`;
     }
     if (!white || !black) return t`Waiting for ${colourWord(white ? 'b' : 'w')}`;
@@ -432,9 +433,10 @@ export class ArbiterView {
     return [fallen, ...offers].join(' · ');
   }
 
-  /** What the Laws ask of its result, where a round's file tells that. */
-  renderLaw(card) {
+  /** What came of it, and what the Laws ask of its result, where a round's file tells that. */
+  renderResult(card) {
     const law = card.standing && this.app.round.lawOf(card.number);
+    if (card.standing) setText(card.state, this.stateWords(card));
     setText(card.law, law ? `${lawWords(law)}.` : '');
     card.acts.decide.classList.toggle('strong', Boolean(law && law.side && law.found === 'cannot'));
   }
@@ -444,7 +446,11 @@ export class ArbiterView {
     if (this.root.hidden || document.hidden || !this.app.isArbiter()) return;
     await this.app.round.look();
     if (this.root.hidden) return;
-    for (const card of this.cards.values()) this.renderLaw(card);
+    this.renderRound();
+  }
+
+  renderRound() {
+    for (const card of this.cards.values()) this.renderResult(card);
     this.renderLog();
     this.waits.render();
   }

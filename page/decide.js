@@ -164,7 +164,7 @@ export class Decision {
   /** Enters the resignation of a side in a game about whose board it was decided. */
   async end({ number, white, black }, side) {
     const [answer] = await this.app.wire.say(`as ${side === 'w' ? white : black} resign ${number}`);
-    if (answer.startsWith('ok ')) return;
+    if (/^(ok|fallen) /.test(answer)) return;
     this.desk.note(t`It is decided, but game ${number} was not ended. Look how it stands.`, 'refused');
   }
 }

@@ -1,9 +1,10 @@
 // Games that are over and were kept: all of them, by player, day and result, or those of one player with the score.
 
-import { bothMoved, dateWords, readKept } from './kept.js';
+import { bothMoved, dateWords, decisionIn, readKept } from './kept.js';
 import { language, t } from './language.js';
 import { arrange, byId, make, save, setText } from './make.js';
-import { resultWords } from './words.js';
+import { resultText, sideText } from './round.js';
+import { decidedWords, resultWords } from './words.js';
 
 const FIRST_SHOWN = 50, MOST_NAMED = 6;
 const DRAWS_AFTER = 150;             // milliseconds: the file comes in pieces
@@ -17,7 +18,7 @@ export class FinishedView {
     this.root = byId('finished-view');
     this.number = '';                  // the player whose games are shown, '' for those of all
     this.games = [];
-    this.items = new Map();            // game -> its element, which stays while more games come
+    this.items = new Map();            // game -> {result, item}: its element, which stays while more games come
     this.state = 'part';
     this.most = FIRST_SHOWN;
     this.form = byId('finished-form').elements;
@@ -82,11 +83,17 @@ export class FinishedView {
     const { player, day, result } = this.form, text = player.value.trim().toLowerCase();
     const date = day.value.replaceAll('-', '.'), names = this.number ? this.names() : [];
     return this.games.filter((game) => {
-      const { White, Black, Date: played, Result } = game.tags;
+      const { White, Black, Date: played } = game.tags;
       return (!this.number || FinishedView.has(game, names)) && (!date || played === date)
-        && (!result.value || Result === result.value)
+        && (!result.value || this.counted(game) === result.value)
         && (!text || [White, Black].some((name) => name.toLowerCase().includes(text)));
     });
+  }
+
+  /** What came of a game: what the server says, unless an arbiter has decided it. */
+  counted(game) {
+    const { number, tags: { Result: result } } = game;
+    return (this.app.round.decided(number, result) || decisionIn(game) || { result }).result;
   }
 
   found() {
@@ -114,7 +121,7 @@ export class FinishedView {
     this.app.titled(title);
     byId('finished-all').hidden = byId('finished-score').hidden = !name;
     byId('finished-player').hidden = Boolean(name);
-    setText(byId('finished-score'), name ? scoreWords(games, this.names()) : '');
+    setText(byId('finished-score'), name ? this.scoreWords(games) : '');
     setText(byId('finished-count'), TOLD[this.state] || t`Games found: ${games.length}`);
     byId('finished-save').disabled = this.state !== 'whole' || !games.length;
     this.renderNames(games);
@@ -137,6 +144,23 @@ export class FinishedView {
       place ? ', ' : '', make('a', { href: `#/player/${encodeURIComponent(name)}` }, name)]));
   }
 
+  /** A player's points: `7½ of 12: 6 won, 3 drawn, 3 lost`, by the games in which both have moved: one that was begun by
+   * mistake, and one whose opponent did not come, is ended before. One that was played on as another is that one. */
+  scoreWords(all) {
+    const names = this.names(), continued = new Set(all.map(({ tags }) => tags.Continues));
+    const games = all.filter(({ number }) => !continued.has(String(number)));
+    const count = { won: 0, drawn: 0, lost: 0 }, counted = games.filter(bothMoved);
+    for (const game of counted) {
+      const points = sideText(this.counted(game), names.includes(game.tags.White) ? 'w' : 'b');
+      count[points === '½' ? 'drawn' : ['1', '+'].includes(points) ? 'won' : 'lost'] += 1;
+    }
+    const whole = count.won + Math.floor(count.drawn / 2), half = count.drawn % 2 ? '½' : '';
+    const points = half && !whole ? half : `${whole}${half}`;
+    const words = t`Score: ${points} of ${counted.length} (${count.won} won, ${count.drawn} drawn, ${count.lost} lost)`;
+    const rest = games.length - counted.length;
+    return rest ? t`${words}. Not counted, since not both had moved: ${rest}` : words;
+  }
+
   showMore() {
     const place = this.most;
     this.most += 2 * FIRST_SHOWN;
@@ -145,16 +169,18 @@ export class FinishedView {
   }
 
   itemOf(game) {
-    if (!this.items.has(game)) this.items.set(game, this.item(game));
-    return this.items.get(game);
+    const result = this.counted(game), known = this.items.get(game);
+    if (!known || known.result !== result) this.items.set(game, { result, item: this.item(game, result) });
+    return this.items.get(game).item;
   }
 
-  item(game) {
+  item(game, result) {
     const { number, tags } = game;
     const seat = (name, side) => make('span', { class: `seat ${side}` },
       make('span', { class: 'unseen' }, side === 'white' ? t`white: ` : t`black: `),
       make('span', { class: 'name' }, name));
-    const { score, reason } = resultWords(tags.Result, tags.Article || '');
+    const score = resultText(result);
+    const reason = result === tags.Result ? resultWords(result, tags.Article || '').reason : decidedWords(result);
     return make('li', { class: 'game-row' }, make('a', { href: `#/game/${number}`, class: 'pairing' },
       make('span', { class: 'number' }, make('span', { class: 'unseen' }, t`Game `), String(number)),
       make('span', { class: 'pair' }, seat(tags.White, 'white'), seat(tags.Black, 'black')),
@@ -166,21 +192,4 @@ export class FinishedView {
 /** `A. L.` of `Ann Lee`. */
 function initialsOf(full) {
   return full.split(' ').map((word) => (word ? `${[...word][0]}.` : '')).join(' ');
-}
-
-/** A player's points: `7½ of 12: 6 won, 3 drawn, 3 lost`, by the games in which both have moved: one that was begun by
- * mistake, and one whose opponent did not come, is ended before. One that was played on as another is that one. */
-function scoreWords(all, names) {
-  const continued = new Set(all.map(({ tags }) => tags.Continues));
-  const games = all.filter(({ number }) => !continued.has(String(number)));
-  const count = { won: 0, drawn: 0, lost: 0 }, counted = games.filter(bothMoved);
-  for (const { tags: { White, Result } } of counted) {
-    const isWhite = names.includes(White);
-    count[Result === '1/2-1/2' ? 'drawn' : (Result === '1-0') === isWhite ? 'won' : 'lost'] += 1;
-  }
-  const whole = count.won + Math.floor(count.drawn / 2), half = count.drawn % 2 ? '½' : '';
-  const points = half && !whole ? half : `${whole}${half}`;
-  const words = t`Score: ${points} of ${counted.length} (${count.won} won, ${count.drawn} drawn, ${count.lost} lost)`;
-  const rest = games.length - counted.length;
-  return rest ? t`${words}. Not counted, since not both had moved: ${rest}` : words;
 }

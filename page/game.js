@@ -3,7 +3,7 @@
 import { adjournedBy, keepAdjourned } from './adjourn.js';
 import { Board } from './board.js';
 import { Clock } from './clock.js';
-import { dateWords, findKept, pgnOf, toldOf } from './kept.js';
+import { dateWords, decisionIn, findKept, pgnOf, toldOf } from './kept.js';
 import { language, t } from './language.js';
 import { placementOf, readLine, readPgn, readRefusal, readStanding, readTimes, sideOf, squaresOf } from './lines.js';
 import { byId, copy, focused, make, save, say, setText } from './make.js';
@@ -116,6 +116,7 @@ export class GameView {
       Object.assign(this, { number, standing: null, line: [], tags: {}, gone: false });
       Object.assign(this, { back: null, turned: null, unsure: null, pending: null, wasTaken: false, wasAway: false });
       Object.assign(this, { plan: null, proposed: '', offeredBy: '', adjournedBy: '', kept: null, isSought: false });
+      Object.assign(this, { noted: null, notedFor: '' });
       this.note('');
       this.suggest(null);
       byId('move-text').value = '';
@@ -139,6 +140,25 @@ export class GameView {
   /** The games that this view has to be told of. */
   needs() {
     return [this.number];
+  }
+
+  /** What an arbiter has decided about this game, which is over: {result, why}; null where that is not known. */
+  decision() {
+    const { standing, number, kept } = this, noted = kept ? decisionIn(kept) : this.noted;
+    if (!standing || !standing.article) return null;
+    const decided = this.app.round.decided(number, standing.result) || kept && noted;
+    if (decided && !kept && this.notedFor !== decided.result) this.seekDecision(decided.result);
+    return decided && noted && noted.result === decided.result ? noted : decided;
+  }
+
+  /** Who has decided it, and why, stands in the games that were kept. */
+  async seekDecision(result) {
+    const { number } = this;
+    this.notedFor = result;
+    const kept = await findKept(number);
+    if (this.number !== number || !kept) return;
+    this.noted = decisionIn(kept);
+    this.render();
   }
 
   /** Asks for the whole truth: how the game stands, its moves, its tags. */
@@ -242,7 +262,8 @@ export class GameView {
       this.refresh();
       return;
     }
-    const wasOver = Boolean(this.standing && this.standing.article), ended = this.stand(standing);
+    const wasOver = Boolean(this.standing && this.standing.article), wasPlaying = this.isPlaying();
+    const ended = this.stand(standing);
     if (!standing) {
       this.wasTaken = true;
       say(TAKEN_OFF);
@@ -255,6 +276,7 @@ export class GameView {
     if (answer.startsWith('ok ')) this.watchAdjourning(by, sent, arbiter);
     this.tell(by, sent, answer, arbiter);
     if (ended) this.over();            // (a mate is said behind its move)
+    if (!wasPlaying && this.isPlaying() && focused() === byId('game-title')) this.board.focus();
     this.render();
   }
 
@@ -359,6 +381,12 @@ export class GameView {
   isOffered() {
     const seat = this.seat();
     return this.running() && seat !== '' && this.standing.offer.includes(OTHER[seat]);
+  }
+
+  /** What came of it: what the server says, unless an arbiter has decided it. */
+  counted() {
+    const decision = this.decision();
+    return decision ? decision.result : this.standing.result;
   }
 
   /** Whether one's own game goes on here. */
@@ -734,7 +762,7 @@ export class GameView {
     if (this.isOffered()) return t`Draw offered: ${names}`;
     if (this.myTurn()) return t`Your turn: ${names}`;
     if (this.adjournedBy) return t`Adjourned: ${names}`;
-    return this.running() ? names : `${names}, ${this.standing.article ? this.standing.result : t`waiting`}`;
+    return this.running() ? names : `${names}, ${this.standing.article ? this.counted() : t`waiting`}`;
   }
 
   turnWords() {

@@ -9,6 +9,7 @@ const FILE = 'kept.pgn';
 const BETWEEN = /\n\n(?=\[)/;        // a game ends with an empty line, and the next begins with a tag
 const TAG = /^\[(\w+) "((?:[^"\\]|\\.)*)"\]$/gm;
 const PLAYER = /^(White|Black)$/, NO_DAY = /^Date [?]/;
+const DECIDED = /^\n\{(?:(.+) )?decided ([-+/\d]+)(?: \(([^)]*)\))?(?:: ([^}]*))?\}\s+\S+\s*$/;
 const CLOCK = /\[%clk (\d+):(\d\d):(\d\d)(?:\.\d+)?\]/;
 
 /** What was read whole, by the tag of the file that it was. */
@@ -60,6 +61,15 @@ async function readOn(reader, tag, take, stopped) {
 export function bothMoved({ text }) {
   const moves = text.replace(/^\[.*$/gm, '').replace(/\{[^}]*\}/g, ' ');
   return (moves.match(/(?<![\w-])[KQRBNOa-h][\w=-]+/g) || []).length > 1;
+}
+
+/** What an arbiter has decided about a kept game, as the comment before its end tells it: {result, why}, with who has and
+ * the article as far as they are told; null where there is none. */
+export function decisionIn({ text }) {
+  const found = DECIDED.exec(text.slice(text.lastIndexOf('\n{')));
+  if (!found) return null;
+  const [, who, result, article, reason] = found, why = [article, reason].filter(Boolean).join(', ');
+  return { result, why: [who, why].filter(Boolean).join(': ') };
 }
 
 /** The game of this number, or null. */

@@ -100,12 +100,12 @@ export function announcedIn(lines) {
   return behind(lines, 'announced ');
 }
 
-/** `decided ROUND BOARD RESULT ARTICLE REASON` as {round, board, score, why}, with the article before the reason where
- * one is named. */
+/** `decided ROUND BOARD RESULT ARTICLE REASON` as {round, board, result, score, why}, with the article before the reason
+ * where one is named. */
 export function readDecided(line) {
   const [, round, board, result, article, ...words] = line.split(' '), reason = words.join(' ');
   const score = result.replaceAll('1/2', '½').replace(/(?<=[\d½])-/, '–');
-  return { round, board, score, why: article === '-' ? reason : `${article}, ${reason}` };
+  return { round, board, result, score, why: article === '-' ? reason : `${article}, ${reason}` };
 }
 
 function behind(lines, front) {

@@ -9,7 +9,7 @@ import { FinishedView } from './finished.js';
 import { GameView } from './game.js';
 import { HallView, wholeScreen } from './hall.js';
 import { t } from './language.js';
-import { isNoGame, readAct, readPlayers, readRefusal, readRows, readStanding } from './lines.js';
+import { isNoGame, readAct, readDecided, readPlayers, readRefusal, readRows, readStanding } from './lines.js';
 import { byId, make, say, setText } from './make.js';
 import { Offers } from './offers.js';
 import { RoundView } from './round.js';
@@ -34,6 +34,7 @@ class Page {
     this.watched = new Set();          // games that the lobby was asked, or is to be asked, to tell of
     this.held = new Set();             // of these, those of which it has said that it does
     this.begun = new Set();            // one's own games that had begun, or of which it was said
+    this.toldRunning = 0;              // of these, the one to which the way is shown
     this.who = new Who(this);
     this.turns = new Turns();
     this.offers = new Offers(this);    // (before the connection, which ends where the page is left)
@@ -59,7 +60,7 @@ class Page {
   connect() {
     const told = {
       opened: (server) => this.opened(server), notice: (lines) => this.notice(lines), clocks: clocksTold,
-      announced: announcedTold, decided: decidedTold, offers: () => this.challenges.look(),
+      announced: announcedTold, decided: (line) => this.decided(line), offers: () => this.challenges.look(),
       log: (isFull) => { byId('log-full').hidden = !isFull; }, changed: () => this.changed(),
       unnamed: () => this.who.unnamed(),
       served: (isServed) => { byId('no-broadcast').hidden = isServed; },
@@ -285,6 +286,7 @@ class Page {
     this.table.load(readRows(answer.slice(2)));
     this.learnNames([...this.table.rows.values()].flatMap((row) => [row.white, row.black]));
     if (this.lostOpen) this.findOpened();
+    this.endRunning();
     this.findBegun();
     this.offers.look();
     this.round.refresh();
@@ -353,11 +355,16 @@ class Page {
     this.turns.tell(`${words}.`);
   }
 
-  /** That a game goes on or has begun at another board, and the way there. */
+  /** That a game goes on or has begun at another board, and the way there, until it ends. */
   tellRunning(number, words) {
+    this.toldRunning = number;
     byId('invited').hidden = false;
     byId('invited').replaceChildren(t`${words}: the clocks run. `,
       make('a', { class: 'button strong', href: `#/game/${number}` }, t`Go there`));
+  }
+
+  endRunning() {
+    if (!this.ownRunning().some(({ number }) => number === this.toldRunning)) byId('invited').hidden = true;
   }
 
   findOpened() {
@@ -413,6 +420,7 @@ class Page {
       return;
     }
     this.table.notice(number, sent, standing);
+    this.endRunning();
     this.offers.look(false);
     if (sent.startsWith('pair ')) this.challenges.look();
     if (standing) this.learnNames([standing.white, standing.black]);
@@ -465,6 +473,12 @@ class Page {
     this.who.render();
   }
 
+  /** An arbiter has decided a board. */
+  decided(line) {
+    decidedTold(line);
+    this.round.decides(readDecided(line));
+  }
+
   /** What stands in the lobby's place may tell why, as that the disk is full. */
   async askWhy() {
     const said = await fetch('/', { cache: 'no-store' }).catch(() => null);
@@ -502,11 +516,12 @@ class Page {
     };
   }
 
-  /** Who comes to another view by keys or listening begins at its heading. */
+  /** Who comes to another view by keys or listening begins at its heading, and who plays there at the board. */
   toHeading() {
     const at = document.activeElement, heads = [...this.view.root.querySelectorAll('h1')];
     if (at && at !== document.body && at !== byId('main') && at.getClientRects().length) return;
-    (heads.find((one) => one.getClientRects().length) || byId('main')).focus({ preventScroll: true });
+    if (this.isPlaying()) this.game.board.focus();
+    else (heads.find((one) => one.getClientRects().length) || byId('main')).focus({ preventScroll: true });
   }
 
   toContent() {

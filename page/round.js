@@ -2,6 +2,7 @@
 
 import { t } from './language.js';
 import { byId, make, setText } from './make.js';
+import { SIDES } from './words.js';
 
 const FILE = 'round.json';
 // In milliseconds: while it is shown or none was told, and for a game's page where one was told.
@@ -20,6 +21,8 @@ export class RoundView {
     this.hash = '#/round';
     this.number = 0;                   // the round that is shown, 0 for the newest
     this.told = null;                  // what the file tells
+    this.results = new Map();          // by it: game -> {result, why} of its board, why as far as that was told
+    this.decisions = new Map();        // `ROUND BOARD` -> {result, why, isTold}: what the lobby has told, maybe before it
     this.text = '';                    // the file, as it was told last
     this.state = 'sought';
     this.readAt = -Infinity;
@@ -54,15 +57,52 @@ export class RoundView {
       const answer = await fetch(FILE, { cache: 'no-cache' }), text = answer.ok ? await answer.text() : '';
       const isNone = answer.ok ? !text.trim() : answer.status === 404;
       if (isNone || answer.ok) this.text = text;
-      if (isNone) Object.assign(this, { told: null, state: 'none' });
-      else if (answer.ok) Object.assign(this, { told: JSON.parse(text), state: 'told' });
+      if (isNone) this.take(null, 'none');
+      else if (answer.ok) this.take(JSON.parse(text), 'told');
       else this.state = this.told ? 'told' : 'failed';
     } catch (refused) {
       this.state = this.told ? 'told' : 'failed';
     }
     byId('to-round').hidden = !this.told;
     this.render();
-    if (this.text !== before && this.app.view === this.app.game) this.app.game.render();
+    if (this.text !== before) this.renderResults();
+  }
+
+  /** What the file tells, and of a board what an arbiter has decided since. Matches of teams have no games. */
+  take(told, state) {
+    Object.assign(this, { told, state, results: new Map() });
+    for (const [place, boards] of (told && !this.isOfTeams() ? told.rounds : []).entries()) {
+      for (const board of boards) {
+        const decided = this.decisions.get(`${place + 1} ${board.board}`);
+        if (decided && decided.result === board.result) decided.isTold = true;
+        if (decided && !decided.isTold) Object.assign(board, { result: decided.result, law: undefined });
+        const { game, result } = board, why = decided && decided.result === result ? decided.why : '';
+        if (game) this.results.set(game, { result, why });
+      }
+    }
+  }
+
+  /** The lobby tells that an arbiter has decided a board: its file does so a while later. */
+  decides({ round, board, result, why }) {
+    this.decisions.set(`${round} ${board}`, { result, why, isTold: false });
+    if (this.told) this.take(JSON.parse(this.text), this.state);
+    this.render();
+    this.renderResults();
+  }
+
+  /** What shows results of games elsewhere. */
+  renderResults() {
+    const { view, game, table, desk } = this.app;
+    if (view === desk) desk.renderRound();
+    else if (view === game || view === table) view.render();
+  }
+
+  /** What an arbiter has decided of a game that is over by the server's result, {result, why}; null where nothing is known
+   * of that: of who did not come, the file has `+/-` by the server's result too. */
+  decided(number, result) {
+    const found = this.results.get(number);
+    if (!found || found.result === '*' || result === '*') return null;
+    return found.why || SIDES.some((side) => worth(found.result, side) !== worth(result, side)) ? found : null;
   }
 
   /** Reads the file where it was read some time ago: so the head has the way here wherever one is. */
@@ -164,11 +204,17 @@ export class RoundView {
     return player ? player.full : '';
   }
 
+  /** The name of a player, and the way to the games; a team has no page of its own. */
+  seatLink(number) {
+    const { name, full } = this.told.players[number - 1] || { name: '', full: '' };
+    return this.isOfTeams() || !name ? full : make('a', { href: `#/player/${encodeURIComponent(name)}` }, full);
+  }
+
   boardRow({ board, white, black, bye, result, game }) {
     const words = bye ? t`bye` : result !== '*' ? resultText(result) : game ? t`goes on` : t`not begun`;
-    return make('tr', {}, make('td', { class: 'number' }, String(board)), make('td', {}, this.seat(white)),
+    return make('tr', {}, make('td', { class: 'number' }, String(board)), make('td', {}, this.seatLink(white)),
       make('td', { class: 'result' }, game ? make('a', { href: `#/game/${game}` }, words) : words),
-      make('td', {}, bye ? '' : this.seat(black)));
+      make('td', {}, bye ? '' : this.seatLink(black)));
   }
 
   headCells() {
@@ -177,10 +223,9 @@ export class RoundView {
         make('abbr', { title: TITLES[name] || name }, name)))];
   }
 
-  /** A team has no page of its own. */
-  standingRow({ place, full, name, points, values }) {
-    const named = this.isOfTeams() ? full : make('a', { href: `#/player/${encodeURIComponent(name)}` }, full);
-    return make('tr', {}, make('td', { class: 'number' }, String(place)), make('th', { scope: 'row' }, named),
+  standingRow({ place, number, points, values }) {
+    return make('tr', {}, make('td', { class: 'number' }, String(place)),
+      make('th', { scope: 'row' }, this.seatLink(number)),
       make('td', { class: 'number' }, pointsText(points)),
       ...values.map((value) => make('td', { class: 'number' }, pointsText(value))));
   }
@@ -192,7 +237,7 @@ export class RoundView {
 
   /** A player's rounds: the line of the opponent, the colour and what it was worth. */
   crossRow(player, place, places) {
-    return make('tr', {}, make('td', { class: 'number' }, String(place + 1)), make('th', { scope: 'row' }, player.full),
+    return make('tr', {}, make('td', { class: 'number' }, String(place + 1)), make('th', { scope: 'row' }, this.seatLink(player.number)),
       ...this.told.rounds.map((boards) => this.crossCell(player.number, boards, places)));
   }
 
@@ -200,18 +245,22 @@ export class RoundView {
     const found = boards.find(({ white, black }) => white === number || black === number);
     if (!found) return make('td', { class: 'number' }, '–');
     if (found.bye) return make('td', { class: 'number' }, pointText(found.result));
-    const isWhite = found.white === number, [one, other] = found.result.split('-');
+    const isWhite = found.white === number;
     const line = places.findIndex((player) => player.number === (isWhite ? found.black : found.white)) + 1;
-    const points = found.result === '*' ? '*' : sidePoints(found.result, isWhite, one, other);
     return make('td', { class: 'number' }, `${line}`, make('span', { title: SIGNS[isWhite ? 'w' : 'b'] },
-      isWhite ? t`w` : t`b`), pointText(points));
+      isWhite ? t`w` : t`b`), found.result === '*' ? '*' : sideText(found.result, isWhite ? 'w' : 'b'));
   }
 }
 
-/** What a side has of `1-0`, `1/2-0`, `+/-` and the like. */
-function sidePoints(result, isWhite, one, other) {
-  if (result.includes('/') && /^[+-]/.test(result)) return isWhite ? result[0] : result[2];
-  return isWhite ? one : other;
+/** What a side has of `1-0`, `1/2-0`, `+/-` and the like, in words: `1`, `½`, `+`. */
+export function sideText(result, side) {
+  const [white, black] = /^[+-]\//.test(result) ? result.split('/') : result.split('-');
+  return pointText(side === 'w' ? white : black);
+}
+
+/** The same in points. */
+function worth(result, side) {
+  return { 1: 1, '+': 1, '½': 0.5 }[sideText(result, side)] || 0;
 }
 
 function pointText(text) {
@@ -226,7 +275,7 @@ function pointsText(text) {
 }
 
 /** `1–0` of `1-0`, `½–½`, `+ –`. */
-function resultText(result) {
+export function resultText(result) {
   if (/^[+-]\//.test(result)) return `${pointText(result[0])} ${pointText(result[2])}`;
   return result.split('-').map(pointText).join('–');
 }

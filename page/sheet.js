@@ -4,12 +4,14 @@ import { t } from './language.js';
 import { placementOf, readTimes, sideOf } from './lines.js';
 import { byId, make, setText } from './make.js';
 import { drawTaken } from './material.js';
+import { resultText, sideText } from './round.js';
 import {
-  SIDES, colourWord, kindWord, rankWords, resultWords, sanShown, sanWords, timesInFull, timesWords, withReason,
+  SIDES, colourWord, decidedWords, kindWord, rankWords, resultWords, sanShown, sanWords, timesInFull, timesWords,
+  withReason,
 } from './words.js';
 
 export function drawPlayers(game) {
-  const standing = game.standing, times = readTimes(game.tags.TimeControl || '');
+  const standing = game.standing, times = readTimes(game.tags.TimeControl || ''), result = game.counted();
   for (const place of ['far', 'near']) {
     const side = game.sideAt(place), root = game.players[place], name = side === 'w' ? standing.white : standing.black;
     const turn = game.running() && standing.side === side;
@@ -17,7 +19,7 @@ export function drawPlayers(game) {
     root.classList.toggle('black', side === 'b');
     root.classList.toggle('turn', turn);
     root.classList.toggle('two-periods', Boolean(times && times.moves));
-    root.classList.toggle('won', standing.result === (side === 'w' ? '1-0' : '0-1'));
+    root.classList.toggle('won', ['1', '+'].includes(scoreOf(result, side)));
     setText(root.querySelector('.name'), name ? game.app.nameWords(name) : t`waiting …`);
     root.querySelector('.name').title = name;
     setText(root.querySelector('.colour'), colourWord(side));
@@ -27,7 +29,7 @@ export function drawPlayers(game) {
     setText(root.querySelector('.away'), game.room.awayWords(name));
     const period = standing.article ? '' : periodWords(times, standing.ply, game.startSide(), side);
     setText(root.querySelector('.period'), period);
-    setText(root.querySelector('.score'), game.adjournedBy ? '' : scoreOf(standing.result, side));
+    setText(root.querySelector('.score'), game.adjournedBy ? '' : scoreOf(result, side));
     drawTaken(root.querySelector('.taken'), side, game.line[0] ? game.line[0].fen : standing.fen, game.fenShown());
     const clock = game.clocks[place];
     clock.label = t`${colourWord(side)}’s clock`;
@@ -125,11 +127,15 @@ function moveWords(game) {
 
 export function drawOutcome(game) {
   const standing = game.standing, place = byId('outcome');
-  const words = standing.article ? resultWords(standing.result, standing.article) : null;
+  const words = standing.article ? resultWords(standing.result, standing.article) : null, decision = game.decision();
   place.classList.toggle('over', Boolean(words));
   let [head, more] = ['', ''];
   if (game.adjournedBy) {
     [head, more] = [t`Adjourned`, game.adjournedWords()];
+  } else if (decision) {
+    const { result, why } = decision, ended = t`The server says ${words.score}: ${withReason(words.result,
+      words.reason).trim()}.`;
+    [head, more] = [`${resultText(result)}  ${decidedWords(result)}`, why ? `${why}. ${ended}` : ended];
   } else if (words) {
     [head, more] = [`${words.score}  ${withReason(words.result, words.reason)}`, words.article];
   } else if (!game.started()) {
@@ -159,13 +165,21 @@ export function drawOutcome(game) {
   setText(place.querySelector('.more'), more);
 }
 
+/** Who sits there, and the way to the player's games, but for who plays: no click there leaves the board. */
+function drawSeat(game, place, name) {
+  const words = name ? game.app.nameWords(name) : t`free seat`, had = place.querySelector('a');
+  const href = name && !game.isPlaying() ? `#/player/${encodeURIComponent(name)}` : '';
+  if (place.textContent === words && (had ? had.getAttribute('href') : '') === href) return;
+  place.replaceChildren(href ? make('a', { href }, words) : words);
+}
+
 export function drawFacts(game) {
   const { white, black } = game.standing, times = readTimes(game.tags.TimeControl || '');
   setText(byId('game-title'), t`Game ${game.number}`);
   setText(byId('game-times'), timesWords(times));
   byId('game-times').title = timesInFull(times);
-  setText(byId('game-white'), white ? game.app.nameWords(white) : t`free seat`);
-  setText(byId('game-black'), black ? game.app.nameWords(black) : t`free seat`);
+  drawSeat(game, byId('game-white'), white);
+  drawSeat(game, byId('game-black'), black);
   setText(byId('game-start'), game.tags.FEN ? t`From a position` : '');
   setText(byId('game-kept'), game.keptWords());
   setText(byId('game-board'), game.app.round.boardWords(game.number));
@@ -175,9 +189,7 @@ export function drawFacts(game) {
 }
 
 function scoreOf(result, side) {
-  if (result === '*') return '';
-  if (result === '1/2-1/2') return '½';
-  return result === (side === 'w' ? '1-0' : '0-1') ? '1' : '0';
+  return result === '*' ? '' : sideText(result, side);
 }
 
 /** What a side's clock gets: the second period until it has come, and the increment. */

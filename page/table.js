@@ -3,8 +3,9 @@
 import { t } from './language.js';
 import { readPgn, readRefusal, readRoom, readStanding, readTimes, timesOfOpen } from './lines.js';
 import { arrange, byId, make, setText } from './make.js';
+import { resultText } from './round.js';
 import { TimesField } from './times.js';
-import { NO_FEN, refusalWords, resultWords, timesInFull, timesWords } from './words.js';
+import { NO_FEN, refusalWords, timesInFull, timesWords } from './words.js';
 
 const FIRST_SHOWN = { open: 40, running: 40, over: 15 };
 const MOST_OWN = 10, MOST_ROOMS = 10;
@@ -215,7 +216,7 @@ export class TableView {
   }
 
   stateWords(row) {
-    if (row.result !== '*') return resultWords(row.result, '').score;
+    if (row.result !== '*') return resultText((this.app.round.decided(row.number, row.result) || row).result);
     if (!row.white || !row.black) return row.isAway ? t`not connected` : '';
     if (this.mayMove(row)) return t`your turn`;
     const me = this.app.me();

@@ -100,7 +100,7 @@ export class Waits {
           called it` });
       }
       const absent = this.desk.absences.words(standing, at);
-      if (absent && standing.left[standing.side] > 0) found.push({ row, kind: 'late', words: absent, standing });
+      if (absent) found.push({ row, kind: 'late', words: absent, standing });
       const offers = SIDES.filter((side) => standing.offer.includes(side)).map(colourWord);
       if (offers.length) {
         const words = offers.length > 1 ? t`White and Black offer a draw` : t`${offers[0]} offers a draw`;
@@ -125,9 +125,9 @@ export class Waits {
       if (!keys.includes(key)) this.items.delete(key);
     }
     found.forEach((one, place) => this.items.has(keys[place]) || this.items.set(keys[place], this.item(one)));
-    byId('arbiter-waits').hidden = found.length === 0;
+    byId('arbiter-waits').classList.toggle('nothing', found.length === 0);
     arrange(byId('waits-list'), keys.slice(0, MOST_SHOWN).map((key) => this.items.get(key)));
-    setText(byId('waits-count'), found.length ? String(found.length) : '');
+    setText(byId('waits-count'), String(found.length));
     setText(byId('waits-more'), found.length > MOST_SHOWN ? t`${MOST_SHOWN} of ${found.length} are shown.` : '');
     if (!had.isConnected) (byId('waits-list').querySelector('button') || byId('arbiter-title')).focus();
     this.desk.app.titled(found.length === 0 ? t`Arbiter` : found.length === 1 ? t`Arbiter: 1 waits`

@@ -456,6 +456,7 @@ export const WORDS = {
   'by stalemate': 'durch Patt',
   'since neither side can give mate': ', da keine Seite matt setzen kann',
   'by agreement': 'durch Vereinbarung',
+  'by the arbiter’s decision': 'durch Entscheidung des Schiedsrichters',
   'on time': 'durch Zeitüberschreitung',
   'by claim: the position stood for the third time': 'durch Reklamation: die Stellung stand zum dritten Mal',
   'by claim: fifty moves without a capture or a pawn’s move':
@@ -670,6 +671,8 @@ export const WORDS = {
   'Play': 'Ziehen',
   'Take off the table': 'Vom Tisch nehmen',
   'the same position stands for the third time (9.2)': 'dieselbe Stellung steht zum dritten Mal (9.2)',
+  'In your turn: a position for the third time, or fifty moves each without a capture or a pawn’s move':
+    'Wenn du am Zug bist: eine Stellung zum dritten Mal, oder je fünfzig Züge ohne Schlagen und Bauernzug',
   'Keep it': 'Behalten',
   'Claim a draw': 'Remis reklamieren',
   'Copy the game’s link': 'Link der Partie kopieren',

@@ -451,6 +451,7 @@ export const WORDS = {
   'by stalemate': 'por ahogado',
   'since neither side can give mate': 'porque ningún bando puede dar mate',
   'by agreement': 'de común acuerdo',
+  'by the arbiter’s decision': 'por decisión del árbitro',
   'on time': 'por tiempo',
   'by claim: the position stood for the third time': 'por reclamación: la posición se dio por tercera vez',
   'by claim: fifty moves without a capture or a pawn’s move':
@@ -665,6 +666,8 @@ export const WORDS = {
   'Play': 'Jugar',
   'Take off the table': 'Retirar de la lista',
   'the same position stands for the third time (9.2)': 'la misma posición por tercera vez (9.2)',
+  'In your turn: a position for the third time, or fifty moves each without a capture or a pawn’s move':
+    'En tu turno: una posición por tercera vez, o cincuenta jugadas de cada bando sin capturas ni movimientos de peón',
   'Keep it': 'Guardar',
   'Claim a draw': 'Reclamar tablas',
   'Copy the game’s link': 'Copiar el enlace de la partida',

@@ -459,6 +459,7 @@ export const WORDS = {
   'by stalemate': 'par pat',
   'since neither side can give mate': ', car aucun camp ne peut mater',
   'by agreement': 'par accord mutuel',
+  'by the arbiter’s decision': 'par décision de l’arbitre',
   'on time': 'au temps',
   'by claim: the position stood for the third time': 'sur réclamation : même position pour la troisième fois',
   'by claim: fifty moves without a capture or a pawn’s move':
@@ -675,6 +676,8 @@ export const WORDS = {
   'Play': 'Jouer',
   'Take off the table': 'Retirer de la liste',
   'the same position stands for the third time (9.2)': 'la même position pour la troisième fois (9.2)',
+  'In your turn: a position for the third time, or fifty moves each without a capture or a pawn’s move':
+    'À votre tour : une position pour la troisième fois, ou cinquante coups de chaque camp sans prise ni coup de pion',
   'Keep it': 'Garder',
   'Claim a draw': 'Réclamer la nulle',
   'Copy the game’s link': 'Copier le lien de la partie',

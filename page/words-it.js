@@ -454,6 +454,7 @@ export const WORDS = {
   'by stalemate': 'per stallo',
   'since neither side can give mate': 'perché nessuno dei due può dare matto',
   'by agreement': 'per accordo',
+  'by the arbiter’s decision': 'per decisione dell’arbitro',
   'on time': 'per il tempo',
   'by claim: the position stood for the third time': 'su reclamo: la posizione si è presentata per la terza volta',
   'by claim: fifty moves without a capture or a pawn’s move':
@@ -669,6 +670,8 @@ export const WORDS = {
   'Play': 'Gioca',
   'Take off the table': 'Togli dall’elenco',
   'the same position stands for the third time (9.2)': 'la stessa posizione per la terza volta (9.2)',
+  'In your turn: a position for the third time, or fifty moves each without a capture or a pawn’s move':
+    'Al tuo turno: una posizione per la terza volta, o cinquanta mosse per parte senza catture né mosse di pedone',
   'Keep it': 'Conserva',
   'Claim a draw': 'Reclama la patta',
   'Copy the game’s link': 'Copia il link della partita',

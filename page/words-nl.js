@@ -454,6 +454,7 @@ export const WORDS = {
   'by stalemate': 'door pat',
   'since neither side can give mate': ', omdat geen van beide spelers mat kan geven',
   'by agreement': 'door overeenkomst',
+  'by the arbiter’s decision': 'door beslissing van de arbiter',
   'on time': 'op tijd',
   'by claim: the position stood for the third time': 'door claim: de stelling kwam voor de derde keer voor',
   'by claim: fifty moves without a capture or a pawn’s move':
@@ -670,6 +671,8 @@ export const WORDS = {
   'Play': 'Spelen',
   'Take off the table': 'Van de lijst halen',
   'the same position stands for the third time (9.2)': 'dezelfde stelling voor de derde keer (9.2)',
+  'In your turn: a position for the third time, or fifty moves each without a capture or a pawn’s move':
+    'Als je aan zet bent: een stelling voor de derde keer, of elk vijftig zetten zonder slaan en zonder pionzet',
   'Keep it': 'Bewaren',
   'Claim a draw': 'Remise claimen',
   'Copy the game’s link': 'Link van de partij kopiëren',

@@ -450,6 +450,7 @@ export const WORDS = {
   'by stalemate': 'przez pata',
   'since neither side can give mate': ', bo żadna ze stron nie może dać mata',
   'by agreement': 'za obopólną zgodą',
+  'by the arbiter’s decision': 'decyzją sędziego',
   'on time': 'na czas',
   'by claim: the position stood for the third time': 'na reklamację: pozycja powtórzyła się po raz trzeci',
   'by claim: fifty moves without a capture or a pawn’s move':
@@ -661,6 +662,8 @@ export const WORDS = {
   'Play': 'Zagraj',
   'Take off the table': 'Usuń z listy',
   'the same position stands for the third time (9.2)': 'ta sama pozycja po raz trzeci (9.2)',
+  'In your turn: a position for the third time, or fifty moves each without a capture or a pawn’s move':
+    'Gdy ruch należy do ciebie: pozycja po raz trzeci albo po pięćdziesiąt posunięć bez bicia i ruchu pionka',
   'Keep it': 'Zachowaj',
   'Claim a draw': 'Reklamacja remisu',
   'Copy the game’s link': 'Kopiuj link do partii',

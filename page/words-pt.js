@@ -448,6 +448,7 @@ export const WORDS = {
   'by stalemate': 'por afogamento',
   'since neither side can give mate': 'porque nenhum lado pode dar mate',
   'by agreement': 'por comum acordo',
+  'by the arbiter’s decision': 'por decisão do árbitro',
   'on time': 'por tempo',
   'by claim: the position stood for the third time': 'por reclamação: a posição ocorreu pela terceira vez',
   'by claim: fifty moves without a capture or a pawn’s move':
@@ -662,6 +663,8 @@ export const WORDS = {
   'Play': 'Jogar',
   'Take off the table': 'Retirar da lista',
   'the same position stands for the third time (9.2)': 'a mesma posição pela terceira vez (9.2)',
+  'In your turn: a position for the third time, or fifty moves each without a capture or a pawn’s move':
+    'Na sua vez: uma posição pela terceira vez, ou cinquenta lances de cada lado sem captura nem movimento de peão',
   'Keep it': 'Guardar',
   'Claim a draw': 'Reclamar empate',
   'Copy the game’s link': 'Copiar o link da partida',

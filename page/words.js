@@ -117,6 +117,11 @@ export function resultWords(result, article) {
   };
 }
 
+/** By whom a result was decided, behind what it is where one side has won or it is a draw. */
+export function decidedWords(result) {
+  return withReason(WINS[result] || '', t`by the arbiter’s decision`).trim();
+}
+
 const ENTERED = {
   open: t`the opening of this game`, join: t`the joining of this game`, move: t`a move`, offer: t`an offer of a draw`,
   accept: t`the agreement to a draw`, decline: t`the refusal of a draw`,

@@ -3,6 +3,7 @@
 import json
 import os
 import re
+import time
 
 from evening import in_languages, is_in
 from lib.program import put
@@ -59,6 +60,19 @@ def value(person, name):
     return person.run('return document.querySelector("#decide-form").elements[arguments[0]].value', name)
 
 
+def shows_decided(hall, number, ended):
+    """That a game is a draw by decision stands on its page, at the table and on its card, though the server says that
+    Black has won."""
+    bob, sue = hall.bob, hall.sue
+    sue.shows(on_card(number, '.desk-state'), '½–½ Draw by the arbiter’s decision', 'the card says so')
+    bob.goes('').shows('[data-key="look-%s"] .state' % number, '½–½', 'so does the table')
+    bob.goes('game/' + number).reads('#outcome', '½–½  Draw by the arbiter’s decision', '6.9, Black cannot mate',
+                                     'The server says 0–1: %s.' % ended)
+    for side in ('white', 'black'):
+        bob.shows('.player.%s .score' % side, '½', 'the score of ' + side)
+    well_on_screens(bob, 'a game that was decided')
+
+
 def a_decision(hall):
     """The desk decides a board: of a game that ended by a flag, with a draw where the winner's men never mate, of one
     whose player has not come, which waits once the default time is over, and of one that has left the table. Where it
@@ -90,6 +104,7 @@ def a_decision(hall):
     decides(hall, 2, 'The arbiter has decided board 1 of round 2: ½–½. Why: 6.9, Black cannot mate', board=1,
             result='1/2-1/2', white='ann', black='bob', article='6.9', arbiter='Eve Arbiter',
             reason='Black cannot mate by any legal moves')
+    shows_decided(hall, drawn, 'Black wins on time')
     here = paired(hall, 'ann', 'cid', '300 0')
     sue.click(on_card(here, '[data-key^=decide-]')).reads('#decide-stands', 'White has not made a move')
     sue.is_so(value(sue, 'result') == '+/-', 'White sits there').click('#decide-leave')
@@ -101,10 +116,16 @@ def a_decision(hall):
     sue.is_so(value(sue, 'reason') == 'neither player came in time', 'neither is there')
     sue.is_so(value(sue, 'result') == '-/-', 'nobody has won')
     sue.reads('#decide-told', 'Fill in the board').click('#decide-leave')
+    fallen = paired(hall, 'cid', 'dee', '1 0')
+    sue.finds('#waits-list [data-key="show-%s-flag"]' % fallen, 'another flag has fallen')
     sue.lacks('.wait.late', 'nothing waits').type('#default-time', '1')
+    sue.until(lambda: sue.sent('pgn ' + fallen), 'its times are asked for')
+    time.sleep(0.5)
     sue.run('const now = performance.now.bind(performance); performance.now = () => now() + 61000')
     sue.reads('#waits-list', 'Neither player has come within the default time, 1 min')
     sue.reads('#waits-list', 'Black has not come within the default time, 1 min')
+    sue.finds('#waits-list [data-key="show-%s-late"]' % fallen, 'who has not come is told behind a flag too')
+    entered(hall, 'as dee flag ' + fallen)
     bob.takes(hall.lobby.tokens['cid']).click('#other-yes')
     bob.shows('#who-name', hall.lobby.full['cid'], 'who comes now')
     sue.reads('#waits-list', 'Black has come after the default time, 1 min')

@@ -579,6 +579,12 @@ def the_board_stays(hall):
     ann.reads('#challenges', 'offers you a game')
     ann.is_so([person.run(place) for person in (ann, bob)] == stood, 'each board is where it was')
     well_on_screens(ann, 'news over a game', '.news .banner')
+    ann.screen(360, 740, 1, True)
+    covered = '''return [...document.querySelectorAll('.top nav a, .top summary, .tools > button')].filter((e) => {
+        const { x, y, width, height } = e.getBoundingClientRect();
+        return width && !e.contains(document.elementFromPoint(x + width / 2, y + height / 2)); }).map((e) => e.id)'''
+    ann.until(lambda: ann.run(covered) == [], 'on a phone it leaves the head free')
+    ann.screen(1280, 800)
     here = ann.driver.current_url
     ann.click('#challenges .strong').reads('#challenges', 'Another game of yours goes on')
     ann.is_so(ann.driver.current_url == here, 'nothing has begun')
@@ -588,6 +594,7 @@ def the_board_stays(hall):
     ann.click('#invited a').until(lambda: ann.driver.current_url == here, 'the way to it')
     ann.reads('#invited', 'Your game %s against' % second, 'goes on')
     by_lines(hall, 'ann', 'resign ' + second)
+    ann.loses('#invited', 'that is told until it has ended')
     by_lines(hall, 'eve', 'announce')
     carl.close()
 

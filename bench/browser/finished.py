@@ -1,11 +1,13 @@
 """Scenes of bench/browser/page: games that are over and were kept, as /kept.pgn has them."""
 
+import json
 import os
 import time
 
 from evening import FOOLS, in_languages, is_in
 from lib.program import put
 from readable import keys_go_round, on_screens, reads_well, well_on_screens
+from round import round_told, serves
 
 ANN, BOB, ZOE = 'Ann Lee', 'Bob <b>Stone</b> & Sons', 'Zoë "Zed" O\\Brien'
 MATE = '1. f3 {[%clk 0:04:59]} 1... e5 {[%clk 0:04:58]} 2. g4 {[%clk 0:04:51]} 2... Qh4# {[%clk 0:04:47]} 0-1'
@@ -85,6 +87,29 @@ def finished_games(hall):
         looks_for(person, player='stone')
         well_on_screens(person, 'games')
         person.is_quiet()
+
+
+def decided_games(hall):
+    """What an arbiter has decided counts in the list, in the score and on the game's page, as the comment of a kept game
+    tells it, or the round's file."""
+    sue = hall.sit('sue')[2]
+    noted = '1. e4 e5\n{Eve Moss decided 1/2-1/2 (6.9): only a {knight) is left}\n0-1'
+    keeps(hall, ((NOBODY + 3, ANN, BOB, '2026.11.27', '0-1', '6.9', noted),
+                 (NOBODY + 2, BOB, ANN, '2026.11.27', '1-0', '5.1.2', '1. e4 e5 1-0')))
+    states = lambda: sue.run('return [...document.querySelectorAll("#finished-list .state")].map((e) => e.textContent)')
+    score = lambda words: sue.goes('player/' + ANN.replace(' ', '%20')).shows('#finished-score', words, 'the score')
+    score('Score: ½ of 2 (0 won, 1 drawn, 1 lost)').is_so(states() == ['½–½', '1–0'], 'the list: %s' % states())
+    lists(looks_for(sue, result='1/2-1/2'), NUMBERS[1:2], 'by what was decided')
+    lists(looks_for(sue), NUMBERS[1:3], 'all again')
+    sue.goes('game/%d' % (NOBODY + 3)).reads(
+        '#outcome', '½–½  Draw by the arbiter’s decision', 'Eve Moss: 6.9, only a {knight) is left. The server says 0–1: ')
+    told = round_told(NOBODY + 2)
+    told['rounds'][1][0]['result'] = '0-1'
+    serves(hall, json.dumps(told))
+    score('Score: 1½ of 2 (1 won, 1 drawn, 0 lost)').is_so(states() == ['½–½', '0–1'], 'by the round: %s' % states())
+    sue.goes('game/%d' % (NOBODY + 2)).reads('#outcome', '0–1  Black wins by the arbiter’s decision', 'The server says 1–0: ')
+    sue.has('.player.black.won', 'who has won').is_quiet()
+    serves(hall, '')
 
 
 def games_not_counted(hall):
@@ -188,4 +213,4 @@ def many_kept_games(hall):
     keeps(hall, ())
 
 
-FINISHED = (finished_games, games_not_counted, finished_in_every_language, a_kept_game, many_kept_games)
+FINISHED = (finished_games, decided_games, games_not_counted, finished_in_every_language, a_kept_game, many_kept_games)

@@ -62,7 +62,10 @@ def the_round(hall):
     sue.click('#round-others a').shows('#round-title', 'Round 1', 'an earlier round')
     sue.until(lambda: cells(sue, '#round-boards')[0] == ['1', lee, '1–0', bob], 'its boards')
     sue.click('#to-round').shows('#round-title', 'Round 2', 'the newest again')
-    sue.click('#round-boards a').shows('#game-board', 'Round 2, board 1', 'the game says so')
+    for css in ('#round-boards', '#round-standings', '#round-cross'):
+        href = sue.run('return document.querySelector(arguments[0]).getAttribute("href")', css + ' a')
+        sue.is_so(href in ('#/player/ann', '#/player/dee'), 'names are ways to the games of a player: ' + href)
+    sue.click('#round-boards .result a').shows('#game-board', 'Round 2, board 1', 'the game says so')
     ann.reload().shows('#game-board', 'Round 2, board 1', 'to its player too')
     ann.goes('').reload().finds('#to-round', 'the way to it, at the table too')
     for person in (ann, sue):

@@ -2,7 +2,7 @@
 ghost use Rattle.std.specs.Prelude.{◌≡◌, ◌≢◌, ◌<◌, OnOk};
 ghost use Rattle.lobby_players.specs.declared.halts.Finding.TheVariants as findings;
 ghost use Rattle.lobby_loop.specs.Living.{Finds};
-ghost use Rattle.lobby_serving.specs.Beside.{TellsClocks};
+ghost use Rattle.lobby_serving.specs.Beside.{TellsFound, TellsClocks};
 
 use crate::asked::Serving;
 use crate::games_files::GamesFiles;
@@ -106,6 +106,16 @@ fn within(turned: Turned, most: Option<u64>) -> Turned {
     }
 }
 
+// Has everybody told why all clocks are stopped by hand, or that they have to run, where that was found.
+fn tell_clocks(lobby: &mut Lobby, found: Option<String>) -> Result<(), AllocError>
+    ensures { OnOk result (TellsFound found lobby.old.hall lobby.new.hall) }
+{
+    if let Some(reason) = found {
+        lobby.found(&Finding::Clocks(reason))?;
+    }
+    Ok(())
+}
+
 // What is looked at and told beside the turns.
 #[derive(Drop)]
 struct Beside<'a, R, D> {
@@ -181,13 +191,13 @@ where
         if !self.can_stop {
             return Ok(None);
         }
-        if at >= self.clocks_at {
-            self.clocks_at = at.saturating_add(LOOK_EVERY);
-            if let Some(reason) = self.links.stopped_by_hand()? {
-                lobby.found(&Finding::Clocks(reason))?;
-            }
+        if at < self.clocks_at {
+            return Ok(Some(self.clocks_at - at));
         }
-        Ok(Some(self.clocks_at.saturating_sub(at)))
+        self.clocks_at = at.saturating_add(LOOK_EVERY);
+        let found = self.links.stopped_by_hand()?;
+        tell_clocks(lobby, found)?;
+        Ok(Some(LOOK_EVERY))
     }
 
     // Takes turns until something is at fault.

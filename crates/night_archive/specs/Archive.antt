@@ -1,7 +1,7 @@
 -- What an archive keeps.
-use Rattle.std.specs.Prelude.{ℕ, ◌≡◌, List, [], ◌∷◌, Some, None, codes}
-use Rattle.night_files.specs.Lines.{IsRecord, AreRecords, text_of}
-use Rattle.night_files.specs.Torn.{torn_fault}
+use Rattle.std.specs.Prelude.{ℕ, ◌≡◌, ◌≤◌, false, List, [], ◌∷◌, length, drop, Some, None, codes}
+use Rattle.night_files.specs.Lines.{IsRecord, AreRecords, text_of, records_in}
+use Rattle.night_files.specs.Torn.{torn_fault, has_beginning}
 use Rattle.night_archive.specs.Laws.{IsOnce}
 use Rattle.night_archive.specs.Line.{game_in}
 
@@ -29,3 +29,11 @@ pub record Keeps (safe pending : List ℕ) (games : List ℕ) (lines : List (Lis
 -- being put, at most 4 MiB, behind whose first byte no other line begins.
 abbrev pub may_be_cut : List ℕ → Type 0
 may_be_cut behind = torn_fault (codes "{\"game\":") 4_194_304 behind ≡ None
+
+-- Behind so many bytes stands nothing, or at most 4 MiB of whole lines in which no game's line begins: none of a game
+-- is cut off there.
+pub record IsOwnLength (bytes : List ℕ) (own : ℕ) : Type 0 where
+  pub within : own ≤ length bytes
+  pub none : has_beginning (codes "{\"game\":") (drop own bytes) ≡ false
+  pub whole : drop own bytes ≡ text_of (records_in (drop own bytes))
+  pub short : length (drop own bytes) ≤ 4_194_304

@@ -1,23 +1,27 @@
 //! The lines of an archive's file, for those who only read them, and for who is about to open it.
-use crate::archive::games_of_file;
+use crate::archive::{games_of_file, length_of_own};
 use crate::reading::game_of;
 use anyhow::{Context, Result};
-use night_files::{end_last_line, tell_left_out, whole_length};
+use night_files::{end_last_line, tell_behind, whole_length};
 use std::alloc::{AllocError, Global};
 use std::fs;
 use std::rt::Files;
+use text_parts::skip;
 
 /// Ends the last line of an archive's bytes where it lacks only its line feed, and answers whether it did.
 pub fn end_game(alloc: Global, bytes: &mut Vec<u8>) -> Result<bool, AllocError> {
     end_last_line(bytes, |line| Ok(game_of(alloc, line)?.is_some()))
 }
 
-/// The lines of an archive's bytes, without what stands behind them. It fails where one is no game's, where a game has
-/// two, or where what stands behind them may not be cut off.
+/// The lines of an archive's bytes, without what stands behind them, be it torn or the end of a line that was refused
+/// (`length_of_own`). It fails where one is no game's, where a game has two, or where what stands behind them may not be
+/// cut off.
 pub fn lines_in(alloc: Global, file: &str, bytes: &[u8]) -> Result<String> {
-    games_of_file(alloc, bytes).context(format_args!("{file} is no archive"))?;
     let mut lines = Vec::from_slice(alloc, bytes)?;
-    lines.truncate(whole_length(bytes));
+    lines.truncate(length_of_own(bytes));
+    games_of_file(alloc, lines.as_slice()).context(format_args!("{file} is no archive"))?;
+    let whole = whole_length(lines.as_slice());
+    lines.truncate(whole);
     String::from_utf8(lines).context(format_args!("{file}"))
 }
 
@@ -39,6 +43,7 @@ pub fn lines_of<R: Files + AllocGlobal>(rt: &R, file: &str) -> Result<String> {
 pub fn lines_told<R: Files + AllocGlobal + Eprint>(rt: &R, file: &str) -> Result<String> {
     let bytes = bytes_of(rt, file)?;
     let lines = lines_in(rt.alloc(), file, bytes.as_slice())?;
-    tell_left_out(rt, file, bytes.as_slice());
+    let behind = skip(bytes.as_slice(), lines.len());
+    tell_behind(rt, file, lines.len(), behind);
     Ok(lines)
 }

@@ -27,6 +27,8 @@ mod positions;
 #[cfg(test)]
 mod report;
 #[cfg(test)]
+mod returned;
+#[cfg(test)]
 mod room;
 #[cfg(test)]
 mod rounds;
