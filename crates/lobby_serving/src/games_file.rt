@@ -82,13 +82,6 @@ impl Reading {
         }
         Ok(false)
     }
-
-    // Whether it stands as it did: another that has its name by now is no matter.
-    fn is_same(&self) -> bool {
-        self.file
-            .metadata()
-            .is_ok_and(|found| mark_in(&found) == Some(self.mark))
-    }
 }
 
 /// A file that is served, and what was seen of it last.
@@ -150,7 +143,9 @@ impl GamesFile {
         lobby: &mut Lobby,
         reading: Reading,
     ) -> Result<(), AllocError> {
-        if !reading.is_same() {
+        // (that another has its name by now is no matter)
+        let metadata = reading.file.metadata();
+        if !metadata.is_ok_and(|found| mark_in(&found) == Some(reading.mark)) {
             self.seen = None;
             return Ok(());
         }
