@@ -137,7 +137,7 @@ export class Board extends Picture {
     this.drag = null;
     this.at = 60;                      // the square that the keys are on
     this.byPointer = false;            // whether a pointer brought the keys here: then arrows go through the moves
-    this.usesPointer = false;          // whether the last that was done was done by one
+    this.usesPointer = true;           // whether the last that was done was done by one, or nothing was so far
     this.isPressed = false;
     this.releasedAt = -Infinity;
     this.root.className = 'board';
