@@ -71,10 +71,12 @@ has_act unread = is_act (letters unread)
 abbrev pub has_brief : List ℕ → Bool
 has_brief unread = is_brief (letters unread)
 
--- whether it asks what is offered, and is no offer of a draw: it begins with `offers`
+-- Whether it asks what is offered, and is no offer of a draw: its text has six letters or more (134 is 128 and 6), and
+-- begins with `offers`.
 abbrev pub asks_offers : List ℕ → Bool
 asks_offers unread =
-    nat_le 12 (length unread) && (begins (letters unread) (codes "offer") && letter_at unread 11 3 == 115)
+    nat_le 12 (length unread) && (nat_le 134 (slice_index unread 1)
+    && (begins (letters unread) (codes "offer") && letter_at unread 11 3 == 115))
 
 -- whether it is no whole text message of at most 125 bytes, so that how it begins is not seen
 abbrev pub is_hidden : List ℕ → Bool

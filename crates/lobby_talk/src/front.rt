@@ -13,6 +13,9 @@ const SHORT_LEAST: u8 = 128;
 
 const SHORT_MOST: u8 = 253;
 
+/// The least second byte where the text has six letters.
+const SIX_LETTERS: u8 = SHORT_LEAST + 6;
+
 /// Behind so many bytes its first five letters are there: the head has two, and the mask four.
 const LETTERS_END: usize = 11;
 
@@ -109,6 +112,7 @@ fn asks_offers(unread: &[u8]) -> bool
     ensures { result ≡ asks_offers unread.now }
 {
     unread.len() > LETTERS_END
+        && unread[1] >= SIX_LETTERS
         && letters(unread).starts_with(b"offer")
         && letter_at(unread, 11, 3) == b's'
 }
