@@ -4,6 +4,7 @@ pub mod Making
 pub mod Taking
 pub mod Saying
 mod Fronts
+mod Frames
 pub mod Logging
 pub mod Keeping
 mod Replaying

@@ -1,9 +1,13 @@
 -- What stands in front of what came of a browser's socket.
 use Rattle.std.specs.Prelude.{ℕ, Bool, List, [], ◌∷◌, ◌==◌, ◌&&◌, ◌||◌, if◌then◌else◌, nat_le, eqb, codes, bit_xor}
-use Rattle.std.specs.Prelude.{length, slice_index, not}
+use Rattle.std.specs.Prelude.{length, slice_index, not, Some}
 use Rattle.std.specs.List.{starts_with, list_any}
 use Rattle.std.specs.Str.{bytes_eq}
 use Rattle.lobby_words.specs.Words.{word_of, is_act_word, is_as_word}
+use Rattle.websocket.specs.declared.protocol.frame.coding.OpCode.TheVariants.{Data}
+use Rattle.websocket.specs.declared.protocol.frame.coding.Data.TheVariants.{Text}
+use Rattle.websocket.specs.Connection.{whole_header}
+use Rattle.websocket.specs.Frame.{encode_frame}
 
 abbrev pub begins : List ℕ → List ℕ → Bool
 begins text word = starts_with eqb text word
@@ -47,6 +51,10 @@ is_brief text =
 -- Whether a frame that begins so is a whole text message of at most 125 bytes, and masked (RFC 6455, 5.2).
 abbrev pub is_short_text : ℕ → ℕ → Bool
 is_short_text first second = first == 129 && (nat_le 128 second && nat_le second 253)
+
+-- the frame of a text message that is whole, under this mask
+abbrev pub text_frame : List ℕ → List ℕ → List ℕ
+text_frame key text = encode_frame (whole_header (Data Text) (Some key)) text
 
 -- a letter of the text at this place, under the byte of the mask at that one
 abbrev pub letter_at : List ℕ → ℕ → ℕ → ℕ

@@ -1,9 +1,9 @@
 //! What stands in front of what came of a browser's socket.
-ghost use Rattle.std.specs.Prelude.{ℕ, ◌≡◌, ◌≤◌, ◌<◌, ◌++◌, true, false, List, length, take};
+ghost use Rattle.std.specs.Prelude.{ℕ, ◌≡◌, ◌≤◌, ◌<◌, ◌++◌, true, false, List, codes, length, take};
 ghost use Rattle.lobby_words.specs.Words.{word_of};
 ghost use Rattle.lobby_talk.specs.Front.{is_act, is_brief, is_short_text, letter_at, has_letters, letters};
 ghost use Rattle.lobby_talk.specs.Front.{has_act, has_brief, asks_offers, is_hidden, may_be_act, is_hasty_word};
-ghost use Rattle.lobby_talk.specs.Front.{brief_words, long_words, has_word};
+ghost use Rattle.lobby_talk.specs.Front.{begins, brief_words, long_words, has_word, text_frame};
 
 /// The first byte of a frame that is a whole text message, and the least and the most that the second one has where a
 /// mask stands behind it, and then at most 125 bytes (RFC 6455, 5.2).
@@ -141,4 +141,16 @@ pub fn law_of_fronts()
     ensures others { (text : List ℕ) → has_word (brief_words ++ long_words) text ≡ true →
         is_act (take 5 text) ≡ false }
     ensures long { (text : List ℕ) → has_word long_words text ≡ true → is_brief (take 5 text) ≡ false }
+{}
+
+/// Where a text message of 5 to 125 bytes stands in front, in one masked frame (RFC 6455, 5.2, as `websocket` writes
+/// it), the first letters that are read are its own, and it asks what is offered just where it begins so, whatever
+/// stands behind it.
+pub fn law_of_letters()
+    ensures letters { (key text rest : List ℕ) → length key ≡ 4 → 5 ≤ length text → length text ≤ 125 →
+        letters (text_frame key text ++ rest) ≡ take 5 text }
+    ensures offers { (key text rest : List ℕ) → length key ≡ 4 → 5 ≤ length text → length text ≤ 125 →
+        asks_offers (text_frame key text ++ rest) ≡ begins text (codes "offers") }
+    ensures shown { (key text rest : List ℕ) → length text ≤ 125 →
+        is_hidden (text_frame key text ++ rest) ≡ false }
 {}
