@@ -5,6 +5,7 @@ pub mod Taking
 pub mod Saying
 mod Fronts
 mod Frames
+mod Known
 pub mod Logging
 pub mod Keeping
 mod Replaying
