@@ -1,5 +1,5 @@
 -- Why all clocks are stopped, as a file tells it.
-use Rattle.std.specs.Prelude.{ℕ, ◌≡◌, ◌≢◌, ◌==◌, ◌&&◌, ◌⊎◌, nat_le, Bool, true, false, List, [], length, codes}
+use Rattle.std.specs.Prelude.{ℕ, ◌≡◌, ◌≢◌, ◌==◌, ◌&&◌, ◌⊎◌, nat_le, Bool, true, List, [], length, codes}
 use Rattle.std.specs.Prelude.{Option, None, Some, String, if◌then◌else◌}
 use Rattle.std.specs.Global.{Global}
 use Rattle.std.specs.List.{list_all, before_first}
