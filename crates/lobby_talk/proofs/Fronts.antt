@@ -36,7 +36,7 @@ split_word (x ∷ xs) = elim (cases_Bool (x == 32)) [
       ])
 ]
 
-word_text : (text w : List ℕ) → word_of text ≡ w → (text ≡ w) ⊎ ((rest : List ℕ) × (text ≡ w ++ 32 ∷ rest))
+pub word_text : (text w : List ℕ) → word_of text ≡ w → (text ≡ w) ⊎ ((rest : List ℕ) × (text ≡ w ++ 32 ∷ rest))
 word_text text w is =
     let here : take (until text) text ≡ w = ap (λ (n : ℕ). take n text) (until_is text) ∙ is in
     elim (split_word text) [
@@ -211,7 +211,7 @@ by_unpair : (text : List ℕ) → bytes_eq (word_of text) (codes "unpair") ≡ t
 by_unpair text is long =
     begins_with text (codes "unpair") is long (λ _. unpair_alone) unpair_begins
 
-or_either : (a b : Bool) → (a || b) ≡ true → (a ≡ true) ⊎ (b ≡ true)
+pub or_either : (a b : Bool) → (a || b) ≡ true → (a ≡ true) ⊎ (b ≡ true)
 or_either true b is = inl refl
 or_either false b is = inr is
 

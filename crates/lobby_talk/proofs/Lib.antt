@@ -4,6 +4,8 @@ pub mod Making
 pub mod Taking
 pub mod Saying
 mod Fronts
+mod Frames
+mod Known
 pub mod Logging
 pub mod Keeping
 mod Replaying

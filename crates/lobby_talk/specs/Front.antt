@@ -1,9 +1,13 @@
 -- What stands in front of what came of a browser's socket.
 use Rattle.std.specs.Prelude.{ℕ, Bool, List, [], ◌∷◌, ◌==◌, ◌&&◌, ◌||◌, if◌then◌else◌, nat_le, eqb, codes, bit_xor}
-use Rattle.std.specs.Prelude.{length, slice_index, not}
+use Rattle.std.specs.Prelude.{length, slice_index, not, Some}
 use Rattle.std.specs.List.{starts_with, list_any}
 use Rattle.std.specs.Str.{bytes_eq}
 use Rattle.lobby_words.specs.Words.{word_of, is_act_word, is_as_word}
+use Rattle.websocket.specs.declared.protocol.frame.coding.OpCode.TheVariants.{Data}
+use Rattle.websocket.specs.declared.protocol.frame.coding.Data.TheVariants.{Text}
+use Rattle.websocket.specs.Connection.{whole_header}
+use Rattle.websocket.specs.Frame.{encode_frame}
 
 abbrev pub begins : List ℕ → List ℕ → Bool
 begins text word = starts_with eqb text word
@@ -48,6 +52,10 @@ is_brief text =
 abbrev pub is_short_text : ℕ → ℕ → Bool
 is_short_text first second = first == 129 && (nat_le 128 second && nat_le second 253)
 
+-- the frame of a text message that is whole, under this mask
+abbrev pub text_frame : List ℕ → List ℕ → List ℕ
+text_frame key text = encode_frame (whole_header (Data Text) (Some key)) text
+
 -- a letter of the text at this place, under the byte of the mask at that one
 abbrev pub letter_at : List ℕ → ℕ → ℕ → ℕ
 letter_at bytes place mask = bit_xor (slice_index bytes place) (slice_index bytes mask)
@@ -71,10 +79,12 @@ has_act unread = is_act (letters unread)
 abbrev pub has_brief : List ℕ → Bool
 has_brief unread = is_brief (letters unread)
 
--- whether it asks what is offered, and is no offer of a draw: it begins with `offers`
+-- Whether it asks what is offered, and is no offer of a draw: its text has six letters or more (134 is 128 and 6), and
+-- begins with `offers`.
 abbrev pub asks_offers : List ℕ → Bool
 asks_offers unread =
-    nat_le 12 (length unread) && (begins (letters unread) (codes "offer") && letter_at unread 11 3 == 115)
+    nat_le 12 (length unread) && (nat_le 134 (slice_index unread 1)
+    && (begins (letters unread) (codes "offer") && letter_at unread 11 3 == 115))
 
 -- whether it is no whole text message of at most 125 bytes, so that how it begins is not seen
 abbrev pub is_hidden : List ℕ → Bool

@@ -1,7 +1,6 @@
 -- Messages as browsers get them.
 use Rattle.std.specs.Prelude.{ℕ, ◌≡◌, ◌==◌, List, [], ◌∷◌, ◌++◌, length, codes, decimal, ◌<◌, ◌^◌, if◌then◌else◌}
 use Rattle.std.specs.List.{after_first, before_first}
-use Rattle.std.specs.String.{string_bytes}
 use Rattle.chess_board.specs.declared.moves.Move.{Move}
 use Rattle.chess_board.specs.Position.{Position, IsValid}
 use Rattle.chess_notation.specs.Fen.{IsFenOf}

@@ -4,6 +4,7 @@ use Rattle.std.specs.Prelude.{IsUtf8, is_some, if◌then◌else◌}
 use Rattle.std.specs.String.{string_bytes}
 use Rattle.lobby_words.specs.declared.planning.Order.{Order}
 use Rattle.lobby_words.specs.Words.{full_said}
+use Rattle.lobby_words.specs.Players.{IsCarriedOut}
 use Rattle.lobby_words.specs.declared.players.Player.{Player}
 use Rattle.lobby_words.specs.declared.linked.Linked.{Linked as Done}
 use Rattle.lobby_words.specs.declared.refusals.Refusal.TheVariants.{NotWritten}
@@ -86,9 +87,16 @@ pub record IsRefused (c : ℕ) (old new : Talk) : Type 0 where
   pub told : message_values new.told.items ≡ message_values old.told.items ++ to_one c (refusal_text NotWritten) ∷ []
   pub players : new.desk.players ≡ old.desk.players
 
-abbrev pub IsOrderTold : Option Done → ℕ → Talk → Talk → Type 0
-IsOrderTold None c old new = IsRefused c old new
-IsOrderTold (Some done) c old new = new.desk.players.items ≡ done.players.items
+-- It was carried out: these are the players of before as the order changes them, with this token; the desk takes the
+-- message with just this, and they are who is known from now on.
+pub record IsTakenSo (order : Order) (done : Done) (c : ℕ) (text : List ℕ) (old new : Talk) : Type 0 where
+  pub carried : IsCarriedOut order (full_said text) (string_bytes done.token) old.desk.players.items done.players.items
+  pub moves : Moves old (saying (WithLink done.players.items (string_bytes done.token)) c text) new
+  pub players : new.desk.players.items ≡ done.players.items
+
+abbrev pub IsOrderTold : Order → Option Done → ℕ → List ℕ → Talk → Talk → Type 0
+IsOrderTold order None c text old new = IsRefused c old new
+IsOrderTold order (Some done) c text old new = IsTakenSo order done c text old new
 
 -- A change of the players' file that was made: the order, the full name of who is added by it, and the token.
 pub record Changed : Type 0 where
@@ -113,11 +121,12 @@ IsToldLast halts None = ⊤
 IsToldLast halts (Some last) = last ≡ halts
 
 -- What a message has changed in the players' file: nothing where it asks for no order; else what that says, with the
--- full name of the message, and the players are those that this has handed back; or nothing, and then it is refused.
+-- full name of the message, and the desk takes the message with this very token, and the players that have it; or
+-- nothing, and then it is refused.
 abbrev pub IsOrdered : Option Order → ℕ → List ℕ → Option (List Changed) → Option (List Changed) → Talk → Talk → Type 0
 IsOrdered None c text before after old new = after ≡ before
 IsOrdered (Some order) c text before after old new =
-    (done : Option Done) × IsMadeIn order (full_said text) done before after × IsOrderTold done c old new
+    (done : Option Done) × IsMadeIn order (full_said text) done before after × IsOrderTold order done c text old new
 
 -- the order of a message at a moment, if it asks for one; a decision does not
 abbrev pub order_if : Bool → Option Order → Option Order

@@ -1,9 +1,11 @@
 //! What stands in front of what came of a browser's socket.
-ghost use Rattle.std.specs.Prelude.{ℕ, ◌≡◌, ◌≤◌, ◌<◌, ◌++◌, true, false, List, length, take};
-ghost use Rattle.lobby_words.specs.Words.{word_of};
+ghost use Rattle.std.specs.Prelude.{ℕ, ◌≡◌, ◌≢◌, ◌≤◌, ◌<◌, ◌++◌, ◌||◌, true, false, List, codes, length, take};
+ghost use Rattle.std.specs.Str.{bytes_eq};
+ghost use Rattle.lobby_words.specs.Words.{word_of, sort_of};
+ghost use Rattle.lobby_words.specs.declared.words.Sort.TheVariants.{Nothing};
 ghost use Rattle.lobby_talk.specs.Front.{is_act, is_brief, is_short_text, letter_at, has_letters, letters};
 ghost use Rattle.lobby_talk.specs.Front.{has_act, has_brief, asks_offers, is_hidden, may_be_act, is_hasty_word};
-ghost use Rattle.lobby_talk.specs.Front.{brief_words, long_words, has_word};
+ghost use Rattle.lobby_talk.specs.Front.{begins, brief_words, long_words, has_word, text_frame};
 
 /// The first byte of a frame that is a whole text message, and the least and the most that the second one has where a
 /// mask stands behind it, and then at most 125 bytes (RFC 6455, 5.2).
@@ -12,6 +14,9 @@ const TEXT: u8 = 129;
 const SHORT_LEAST: u8 = 128;
 
 const SHORT_MOST: u8 = 253;
+
+/// The least second byte where the text has six letters.
+const SIX_LETTERS: u8 = SHORT_LEAST + 6;
 
 /// Behind so many bytes its first five letters are there: the head has two, and the mask four.
 const LETTERS_END: usize = 11;
@@ -109,6 +114,7 @@ fn asks_offers(unread: &[u8]) -> bool
     ensures { result ≡ asks_offers unread.now }
 {
     unread.len() > LETTERS_END
+        && unread[1] >= SIX_LETTERS
         && letters(unread).starts_with(b"offer")
         && letter_at(unread, 11, 3) == b's'
 }
@@ -130,11 +136,28 @@ pub fn may_be_act(unread: &[u8]) -> bool
 
 /// Whatever the first word of an act, of a pairing, of what is offered or of a login is: a text of five letters or more
 /// with it begins as `has_act` has it, so nothing of these is put off as a question; and none with another message's
-/// word does, nor one that may ask for much as `has_brief` has it.
+/// word does. Nor does one that may ask for much begin as `has_brief` has it, and each that asks for little does. There
+/// are no other words by which a message asks for something, but `name`, which is the server's own and refused.
 pub fn law_of_fronts()
     ensures hasty { (text : List ℕ) → is_hasty_word (word_of text) ≡ true → 5 ≤ length text →
         is_act (take 5 text) ≡ true }
     ensures others { (text : List ℕ) → has_word (brief_words ++ long_words) text ≡ true →
         is_act (take 5 text) ≡ false }
     ensures long { (text : List ℕ) → has_word long_words text ≡ true → is_brief (take 5 text) ≡ false }
+    ensures brief { (text : List ℕ) → has_word brief_words text ≡ true → 5 ≤ length text →
+        is_brief (take 5 text) ≡ true }
+    ensures known { (text : List ℕ) → sort_of text ≢ Nothing → bytes_eq (word_of text) (codes "name") ≡ false →
+        (is_hasty_word (word_of text) || has_word (brief_words ++ long_words) text) ≡ true }
+{}
+
+/// Where a text message of 5 to 125 bytes stands in front, in one masked frame (RFC 6455, 5.2, as `websocket` writes
+/// it), the first letters that are read are its own, and it asks what is offered just where it begins so, whatever
+/// stands behind it.
+pub fn law_of_letters()
+    ensures letters { (key text rest : List ℕ) → length key ≡ 4 → 5 ≤ length text → length text ≤ 125 →
+        letters (text_frame key text ++ rest) ≡ take 5 text }
+    ensures offers { (key text rest : List ℕ) → length key ≡ 4 → 5 ≤ length text → length text ≤ 125 →
+        asks_offers (text_frame key text ++ rest) ≡ begins text (codes "offers") }
+    ensures shown { (key text rest : List ℕ) → length text ≤ 125 →
+        is_hidden (text_frame key text ++ rest) ≡ false }
 {}

@@ -28,7 +28,7 @@ pub use counts::{
     ACTS, Asked, BOUNDS, Coming, Counts, NOTHING_ASKED, NOTHING_CAME, NOTHING_COUNTED, is_answer,
     is_refused_login,
 };
-pub use front::{has_act, has_brief, law_of_fronts, may_be_act};
+pub use front::{has_act, has_brief, law_of_fronts, law_of_letters, may_be_act};
 pub use kept_answer::KeptAnswer;
 pub use link::Link;
 pub use links::{KeepsLinks, NoLinks};

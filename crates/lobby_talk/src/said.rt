@@ -31,7 +31,7 @@ fn say_done(
     requires carried { IfSome done (λ linked. IsCarriedOut order.now (full_said shown.now)
         (string_bytes linked.token) talk.old.desk.players.items linked.players.items) }
     ensures says { OnOk result (Says shown.now number at talk.old talk.new) }
-    ensures told { OnOk result (IsOrderTold done number talk.old talk.new) }
+    ensures told { OnOk result (IsOrderTold order.now done number shown.now talk.old talk.new) }
 {
     match done {
         None => {

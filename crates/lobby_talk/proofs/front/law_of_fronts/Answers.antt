@@ -1,4 +1,5 @@
 use Rattle.lobby_talk.proofs.Fronts.{begins_as_act, begins_as_none, begins_not_brief}
+use Rattle.lobby_talk.proofs.Known.{begins_brief, is_known}
 use Rattle.lobby_talk.proofs.front.law_of_fronts.Goals as goal
 
 pub returns-clause-hasty : goal.returns-clause-hasty
@@ -9,3 +10,9 @@ returns-clause-others c = λ text word. begins_as_none text word
 
 pub returns-clause-long : goal.returns-clause-long
 returns-clause-long c = λ text word. begins_not_brief text word
+
+pub returns-clause-brief : goal.returns-clause-brief
+returns-clause-brief c = λ text word long. begins_brief text word long
+
+pub returns-clause-known : goal.returns-clause-known
+returns-clause-known c = λ text asks name. is_known text asks name
