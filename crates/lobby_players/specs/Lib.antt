@@ -4,3 +4,4 @@ pub mod Faults
 pub mod Adding
 pub mod Relinking
 pub mod Joining
+pub mod Stopping

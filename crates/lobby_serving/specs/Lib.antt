@@ -1,4 +1,5 @@
 pub mod Marks
 pub mod Listing
 pub mod Knowing
+pub mod ByHand
 pub mod Beside

@@ -4,6 +4,7 @@ ghost use Rattle.std.specs.Prelude.{ℕ, false, List, [], ◌≡◌, IfOk, IfSom
 ghost use Rattle.std.specs.String.{string_bytes};
 ghost use Rattle.hex.specs.Hex.{encode_lower};
 ghost use Rattle.lobby_words.specs.Players.{IsCarriedOut};
+ghost use Rattle.lobby_serving.specs.ByHand.{kept_reason, FoundByHand};
 
 use crate::asked::Serving;
 use anyhow::Result;
@@ -73,7 +74,11 @@ where
     }
 
     /// Looks whether somebody else has stopped all clocks or has them run: then why they are, empty where they run.
-    pub fn stopped_by_hand(&mut self) -> Result<Option<String>, AllocError> {
+    pub fn stopped_by_hand(&mut self) -> Result<Option<String>, AllocError>
+        ensures found { IfOk result (λ found.
+            FoundByHand (kept_reason self.old.clocks) found (kept_reason self.new.clocks)) }
+        ensures others { self.new ≡ record self.old { clocks = self.new.clocks } }
+    {
         match &mut self.clocks {
             Some(clocks) => clocks.look(),
             None => Ok(None),

@@ -1,8 +1,9 @@
 //! The word that serves browsers.
-ghost use Rattle.std.specs.Prelude.{◌≡◌, ◌≢◌, ◌<◌, OnOk};
+ghost use Rattle.std.specs.Prelude.{ℕ, ◌≡◌, ◌≢◌, ◌<◌, ◌≤◌, ◌+◌, ◌-◌, ◌^◌, min, true, false, Some, None, Ok};
+ghost use Rattle.std.specs.Prelude.{OnOk, IfOk};
 ghost use Rattle.lobby_players.specs.declared.halts.Finding.TheVariants as findings;
 ghost use Rattle.lobby_loop.specs.Living.{Finds};
-ghost use Rattle.lobby_serving.specs.Beside.{TellsFound, TellsClocks};
+ghost use Rattle.lobby_serving.specs.Beside.{TellsFound, LooksAtClocks};
 
 use crate::asked::Serving;
 use crate::games_files::GamesFiles;
@@ -185,8 +186,16 @@ where
     // Has everybody told that all clocks were stopped by hand, or have to run, where that is news; it is looked at once
     // in a second. After so many milliseconds it is to be looked at again, where clocks can be stopped.
     fn look_at_clocks(&mut self, lobby: &mut Lobby, at: u64) -> Result<Option<u64>, AllocError>
-        ensures early { at < self.old.clocks_at → lobby.new.hall ≡ lobby.old.hall }
-        ensures told { OnOk result (TellsClocks lobby.old.hall lobby.new.hall) }
+        ensures never { self.old.can_stop ≡ false
+            → (result ≡ Ok None) × (self.new ≡ self.old) × (lobby.new.hall ≡ lobby.old.hall) }
+        ensures early { self.old.can_stop ≡ true → at < self.old.clocks_at
+            → (result ≡ Ok (Some (self.old.clocks_at - at))) × (self.new ≡ self.old)
+            × (lobby.new.hall ≡ lobby.old.hall) }
+        ensures next { self.old.can_stop ≡ true → self.old.clocks_at ≤ at
+            → self.new.clocks_at ≡ min (at + 1000) (2 ^ 64 - 1) }
+        ensures looks { self.old.can_stop ≡ true → self.old.clocks_at ≤ at
+            → IfOk result (λ rest. LooksAtClocks rest self.old self.new lobby.old.hall lobby.new.hall) }
+        ensures others { self.new ≡ record self.old { clocks_at = self.new.clocks_at; links = self.new.links } }
     {
         if !self.can_stop {
             return Ok(None);
