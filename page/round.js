@@ -99,6 +99,15 @@ export class RoundFile {
     return null;
   }
 
+  /** A board of a round, {round, board, game, white, black, bye} with the players' names, as it was told last; null where
+   * none was, and where the boards are matches of teams. */
+  boardAt(round, board) {
+    const boards = this.told && !isOfTeams(this.told) ? this.told.rounds[round - 1] : null;
+    const found = boards && boards.find((one) => one.board === board);
+    const name = (number) => (this.told.players[number - 1] || { name: '' }).name;
+    return found ? { ...found, round, white: name(found.white), black: name(found.black) } : null;
+  }
+
   /** The boards of which the file tells what the Laws ask of their game: {round, board, game, white, black, law}. */
   asked() {
     const seat = (number) => (this.told.players[number - 1] || { full: '' }).full;

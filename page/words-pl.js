@@ -964,6 +964,18 @@ export const WORDS = {
   'Decide a result': 'Rozstrzygnij jakiś wynik',
   'The game’s number': 'Numer partii',
   'Game {0} goes on: first its result is entered.': 'Partia {0} trwa: najpierw zapisuje się jej wynik.',
+  'No such board was told of this round.': 'W tej rundzie nie ma takiej szachownicy.',
+  'This board has a bye.': 'Ta szachownica pauzuje.',
+  'No game is known of this board.': 'Partia tej szachownicy nie jest znana.',
+  'Decide the result of board {0} of round {1}: {2} – {3}':
+    'Rozstrzygnij wynik szachownicy {0} rundy {1}: {2} – {3}',
+  'Board {0} of round {1} is the bye of {2}.': 'Szachownica {0} rundy {1} to pauza: {2}.',
+  'Board {0} of round {1} is of {2} and {3}, and not of these two.':
+    'Przy szachownicy {0} rundy {1} grają {2} i {3}, a nie tych dwoje.',
+  'Decide about that board all the same?': 'Mimo to rozstrzygnąć o tej szachownicy?',
+  'Or the round': 'Albo runda',
+  'and the board': 'i szachownica',
+  'Of a board that may have no game': 'O szachownicy, która może nie mieć partii',
   'Default time, min': 'Czas oczekiwania, min',
   '{0} has not come within the default time, {1} min': '{0}: nieobecność przez cały czas oczekiwania, {1} min',
   '{0} has come after the default time, {1} min': '{0}: przyjście po czasie oczekiwania, {1} min',

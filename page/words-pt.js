@@ -963,6 +963,18 @@ export const WORDS = {
   'Decide a result': 'Decidir um resultado',
   'The game’s number': 'Número da partida',
   'Game {0} goes on: first its result is entered.': 'A partida {0} continua: primeiro se registra o resultado.',
+  'No such board was told of this round.': 'Desta ronda não se conhece tal tabuleiro.',
+  'This board has a bye.': 'Este tabuleiro folga.',
+  'No game is known of this board.': 'Deste tabuleiro não se conhece nenhuma partida.',
+  'Decide the result of board {0} of round {1}: {2} – {3}':
+    'Decidir o resultado do tabuleiro {0} da ronda {1}: {2} – {3}',
+  'Board {0} of round {1} is the bye of {2}.': 'O tabuleiro {0} da ronda {1} é a folga de {2}.',
+  'Board {0} of round {1} is of {2} and {3}, and not of these two.':
+    'O tabuleiro {0} da ronda {1} é de {2} e {3}, e não destes dois.',
+  'Decide about that board all the same?': 'Decidir sobre esse tabuleiro mesmo assim?',
+  'Or the round': 'Ou a ronda',
+  'and the board': 'e o tabuleiro',
+  'Of a board that may have no game': 'De um tabuleiro que pode não ter partida',
   'Default time, min': 'Tolerância, min',
   '{0} has not come within the default time, {1} min': '{0}: não chegaram no tempo de tolerância, {1} min',
   '{0} has come after the default time, {1} min': '{0}: chegaram depois do tempo de tolerância, {1} min',
