@@ -11,8 +11,9 @@ import { Room } from './room.js';
 import { drawActions, drawFacts, drawMoves, drawOutcome, drawPlayers } from './sheet.js';
 import { asksFirst } from './settings.js';
 import { sound } from './sound.js';
+import { stopped } from './stopped.js';
 import {
-  FLAG_UP, NOT_YOUR_MOVE, NO_GAME, OTHER, OVER, SIDES, WRONG_PLY, clockWords, colourWord, enteredWords, kindWord,
+  AGREED, CLOCKS_STOPPED, FLAG_UP, NOT_YOUR_MOVE, NO_GAME, OTHER, OVER, SIDES, WRONG_PLY, clockWords, colourWord, enteredWords, kindWord,
   movesTyped, refusalWords, resultWords, sanWords, withReason,
 } from './words.js';
 
@@ -74,7 +75,7 @@ export class GameView {
     on('next-move', () => this.goTo(this.shown() + 1));
     on('last-move', () => this.goTo(this.last()));
     on('turn-board', () => this.turn());
-    on('offer', () => this.act('offer'));
+    on('offer', () => this.askOffer());
     on('accept', () => this.act('accept'));
     on('decline', () => this.act('decline'));
     on('resign', () => this.askResign());
@@ -100,9 +101,11 @@ export class GameView {
     });
     byId('moves').addEventListener('keydown', (event) => this.walkMoves(event));
     addEventListener('resize', () => this.render());
+    addEventListener('clocks', () => stopped || this.noteKind !== 'stopped' || this.note(''));
     const agreed = (id, act) => byId(id).addEventListener('close', (event) => {
       if (event.target.returnValue === 'yes') act();
     });
+    agreed('offer-dialog', () => this.act('offer'));
     agreed('resign-dialog', () => this.act('resign'));
     agreed('claim-dialog', () => this.claim());
     agreed('drop-dialog', () => this.act('drop'));
@@ -134,7 +137,7 @@ export class GameView {
     this.root.hidden = true;
     document.body.classList.remove('plays');
     Object.values(this.clocks).forEach((clock) => clock.stop());
-    for (const what of ['claim', 'resign', 'drop']) byId(`${what}-dialog`).close();
+    for (const what of ['offer', 'claim', 'resign', 'drop']) byId(`${what}-dialog`).close();
   }
 
   /** The games that this view has to be told of. */
@@ -253,6 +256,7 @@ export class GameView {
     if (ended) this.note('');
     if (!standing || standing.article || standing.ply !== this.claimAt) byId('claim-dialog').close();
     if (!standing || standing.article) byId('resign-dialog').close();
+    if (!standing || standing.article || standing.offer) byId('offer-dialog').close();
     return ended;
   }
 
@@ -316,7 +320,9 @@ export class GameView {
     if (this.standing.offer && !own && (word === 'offer' || word === 'claim') && this.seat()) sound('offer');
     if (answer.startsWith('fallen')) say(t`The flag has fallen.`);
     else if (this.adjournedBy) say(`${t`Adjourned`}. ${this.adjournedWords()}`);
-    else if (arbiter) this.news(t`The arbiter, ${this.app.nameWords(arbiter)}, has entered ${enteredWords(word)} for ${
+    else if (arbiter && this.isUncounted()) {
+      this.news(t`The arbiter, ${this.app.nameWords(arbiter)}, has ended the game. It does not count.`);
+    } else if (arbiter) this.news(t`The arbiter, ${this.app.nameWords(arbiter)}, has entered ${enteredWords(word)} for ${
       own ? t`you` : name}.`);
     else if (word === 'join') this.news(t`${name} has joined. The game has begun.`);
     else if (word === 'offer' && !own && this.seat()) say(t`${name} offers a draw.`);
@@ -387,6 +393,12 @@ export class GameView {
   counted() {
     const decision = this.decision();
     return decision ? decision.result : this.standing.result;
+  }
+
+  /** Whether it ended before both had moved: no score counts it then, unless it is a round's board or was decided. */
+  isUncounted() {
+    const { standing, number, app: { round } } = this, isEarly = standing && standing.article && standing.ply < AGREED;
+    return Boolean(isEarly && !this.decision() && !round.placeOf(number) && !round.decidesUnseen());
   }
 
   /** Whether one's own game goes on here. */
@@ -499,7 +511,7 @@ export class GameView {
     this.answered(answer[0].startsWith('ok '));
     if (refusal) {
       if (asked.word === 'flag' && (refusal.number === FLAG_UP || refusal.number === OVER)) this.note('');
-      else this.note(refusalWords(refusal));
+      else this.note(refusalWords(refusal), refusal.number === CLOCKS_STOPPED ? 'stopped' : 'refused');
       if (refusal.number === WRONG_PLY || asked.word === 'flag') this.refresh();
     } else if (answer[0] === 'lost') {
       this.lost(act);
@@ -563,6 +575,11 @@ export class GameView {
   wasMade(act) {
     const made = this.line[act.ply + 1], bare = (san) => san.replace(/[+#]$/, '');
     return Boolean(made && act.move) && (made.text === act.move || bare(made.san) === bare(act.move));
+  }
+
+  askOffer() {
+    byId('offer-dialog').returnValue = '';
+    byId('offer-dialog').showModal();
   }
 
   askResign() {

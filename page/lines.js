@@ -104,7 +104,7 @@ export function announcedIn(lines) {
  * where one is named. */
 export function readDecided(line) {
   const [, round, board, result, article, ...words] = line.split(' '), reason = words.join(' ');
-  const score = result.replaceAll('1/2', '½').replace(/(?<=[\d½])-/, '–');
+  const score = result.replaceAll('1/2', '½').replace(/^([+-])\//, '$1 ').replaceAll('-', '–');
   return { round, board, result, score, why: article === '-' ? reason : `${article}, ${reason}` };
 }
 

@@ -474,9 +474,13 @@ class Page {
   }
 
   /** An arbiter has decided a board. */
-  decided(line) {
-    decidedTold(line);
-    this.round.decides(readDecided(line));
+  async decided(line) {
+    const told = readDecided(line), { round } = this;
+    round.decides(told);
+    if (!round.seatsAt(told)) await round.look();
+    const seats = round.seatsAt(told), me = this.me();
+    decidedTold(line, { names: seats ? seats.map(({ full }) => full).join(' – ') : '',
+      isOwn: Boolean(me && seats && seats.some(({ name }) => name === me)) });
   }
 
   /** What stands in the lobby's place may tell why, as that the disk is full. */

@@ -90,6 +90,11 @@ export class RoundView {
     this.renderResults();
   }
 
+  /** Whether boards were decided, and nothing tells of which games they are. */
+  decidesUnseen() {
+    return !this.told && this.decisions.size > 0;
+  }
+
   /** What shows results of games elsewhere. */
   renderResults() {
     const { view, game, table, desk } = this.app;
@@ -124,6 +129,13 @@ export class RoundView {
       if (found) return { round: place + 1, board: found.board };
     }
     return null;
+  }
+
+  /** Who has a board of a round, {round, board}: White and Black by {name, full}, as they were told last; null where that
+   * is not told. */
+  seatsAt({ round, board }) {
+    const found = this.told && !this.isOfTeams() && (this.told.rounds[round - 1] || []).find((one) => one.board === Number(board));
+    return found ? [found.white, found.black].map((number) => this.told.players[number - 1]).filter(Boolean) : null;
   }
 
   /** The boards of which the file tells what the Laws ask of their game: {round, board, game, white, black, law}. */

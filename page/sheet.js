@@ -12,6 +12,7 @@ import {
 
 export function drawPlayers(game) {
   const standing = game.standing, times = readTimes(game.tags.TimeControl || ''), result = game.counted();
+  const isUncounted = game.isUncounted();
   for (const place of ['far', 'near']) {
     const side = game.sideAt(place), root = game.players[place], name = side === 'w' ? standing.white : standing.black;
     const turn = game.running() && standing.side === side;
@@ -19,7 +20,7 @@ export function drawPlayers(game) {
     root.classList.toggle('black', side === 'b');
     root.classList.toggle('turn', turn);
     root.classList.toggle('two-periods', Boolean(times && times.moves));
-    root.classList.toggle('won', ['1', '+'].includes(scoreOf(result, side)));
+    root.classList.toggle('won', !isUncounted && ['1', '+'].includes(scoreOf(result, side)));
     setText(root.querySelector('.name'), name ? game.app.nameWords(name) : t`waiting …`);
     root.querySelector('.name').title = name;
     setText(root.querySelector('.colour'), colourWord(side));
@@ -29,7 +30,7 @@ export function drawPlayers(game) {
     setText(root.querySelector('.away'), game.room.awayWords(name));
     const period = standing.article ? '' : periodWords(times, standing.ply, game.startSide(), side);
     setText(root.querySelector('.period'), period);
-    setText(root.querySelector('.score'), game.adjournedBy ? '' : scoreOf(result, side));
+    setText(root.querySelector('.score'), game.adjournedBy || isUncounted ? '' : scoreOf(result, side));
     drawTaken(root.querySelector('.taken'), side, game.line[0] ? game.line[0].fen : standing.fen, game.fenShown());
     const clock = game.clocks[place];
     clock.label = t`${colourWord(side)}’s clock`;
@@ -138,6 +139,7 @@ export function drawOutcome(game) {
     [head, more] = [`${resultText(result)}  ${decidedWords(result)}`, why ? `${why}. ${ended}` : ended];
   } else if (words) {
     [head, more] = [`${words.score}  ${withReason(words.result, words.reason)}`, words.article];
+    if (game.isUncounted()) [head, more] = [t`It does not count: not both have moved`, `${head}. ${more}`];
   } else if (!game.started()) {
     head = game.seat() ? t`Waiting for an opponent` : t`This seat is free`;
     more = game.seat() ? t`The clocks start as soon as somebody joins.` : t`The clocks start as soon as you join.`;

@@ -101,8 +101,8 @@ def a_decision(hall):
     well_on_screens(sue, 'the decision')
     sue.type('#decide-form [name=board]', '7').click('#decide-it')
     sue.reads('#decide-told', 'could not be put down').type('#decide-form [name=board]', '1')
-    decides(hall, 2, 'The arbiter has decided board 1 of round 2: ½–½. Why: 6.9, Black cannot mate', board=1,
-            result='1/2-1/2', white='ann', black='bob', article='6.9', arbiter='Eve Arbiter',
+    decides(hall, 2, 'The arbiter has decided board 1 of round 2, Dee van der Meer – Ann Lee: ½–½. Why: 6.9, Black cannot '
+            'mate', board=1, result='1/2-1/2', white='ann', black='bob', article='6.9', arbiter='Eve Arbiter',
             reason='Black cannot mate by any legal moves')
     shows_decided(hall, drawn, 'Black wins on time')
     here = paired(hall, 'ann', 'cid', '300 0')
@@ -132,10 +132,11 @@ def a_decision(hall):
     entered(hall, 'as ann resign ' + here)
     sue.reload().finds('.wait.late', 'the time is kept', patience=90)
     sue.click('#waits-list [data-key="show-%s-late"]' % absent)
+    sue.until(lambda: re.search('the clocks have run for [1-9]', sue.text('#decide-stands')), 'the time is the true one')
     sue.is_so(value(sue, 'result') == '+/-', 'White has come').type('#decide-form [name=round]', '1')
     sue.type('#decide-form [name=board]', '2').type('#decide-form [name=reason]', 'Dee’s train, "late", cost $1')
-    decides(hall, 1, 'The arbiter has decided board 2 of round 1: +/-. Why: 6.7, Dee\'s train, "late", cost $1', board=2,
-            result='+/-', article='6.7', reason='Dee\'s train, "late", cost $1')
+    decides(hall, 1, 'The arbiter has decided board 2 of round 1, Cid Okonkwo – Dee van der Meer: + –. Why: 6.7, Dee\'s '
+            'train, "late", cost $1', board=2, result='+/-', article='6.7', reason='Dee\'s train, "late", cost $1')
     sue.loses('.wait.late', 'the game has ended').reads(on_card(absent, '.desk-state'), 'White wins by resignation')
     runs = paired(hall, 'ann', 'dee', '300 0')
     entered(hall, 'as ann move %s 0 e2e4' % runs, 'as dee move %s 1 e7e5' % runs)
