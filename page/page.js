@@ -293,9 +293,11 @@ class Page {
     return true;
   }
 
-  /** Who is in sight, and plays no game here, asks for the table anew. */
+  /** Who is in sight asks what an arbiter has decided, and who plays no game here for the table anew. */
   async askAnew() {
-    if (!document.hidden && this.me() && !this.isPlaying()) await this.askTable();
+    if (document.hidden) return;
+    this.round.refresh();
+    if (this.me() && !this.isPlaying()) await this.askTable();
   }
 
   /** The table anew, unless its answer is still to come. */

@@ -12,7 +12,7 @@ from lib.net import Door
 from lib.program import content, laid_out, path_of, put
 from lib.web import Guest
 from page_lines import by_lines, truth
-from readable import COORDINATES, on_screens, reads_well, well_on_screens
+from readable import COORDINATES, SIDEWAYS, keys_go_round, on_screens, reads_well, well_on_screens
 
 FOOLS = ['f2f3', 'e7e5', 'g2g4', 'd8h4']
 ROOK_AND_KING = '4k3/8/8/8/8/8/8/R3K3 w - - 0 1'
@@ -404,6 +404,69 @@ def room_for_all(hall):
     ann.click('#accept')
     bob.reads('#outcome', 'Draw by agreement')
     hall.watch(number)
+
+
+# What of these is not in sight as a whole, on a screen that was not scrolled.
+BEYOND = '''return arguments[0].filter((css) => { const box = document.querySelector(css).getBoundingClientRect();
+    return !box.height || Math.min(box.top, box.left) < -1 || box.bottom > innerHeight + 1
+      || box.right > innerWidth + 1; });'''
+# Of each player what lies over the name, and a name of which too little can be read.
+SQUEEZED = '''return ['#far', '#near'].filter((place) => {
+    const box = (part) => document.querySelector(`${place} ${part}`).getBoundingClientRect();
+    const [name, clock, below] = ['.name', '.clock', '.below'].map(box);
+    return name.right > clock.left + 1 || name.bottom > below.top + 3 || name.width < 40; });'''
+BOTH = ['#board .board', '#far .name', '#far .clock', '#near .name', '#near .clock', '#moves [aria-current]']
+ACTS = ['#offer', '#claim', '#resign']
+
+
+def is_on_its_side(person, what, *acts):
+    """On its side a phone shows the whole board, as large as it can be, both clocks, the last move, and this."""
+    for told, _, height, _ in on_screens(person, what, SIDEWAYS):
+        beyond = person.run(BEYOND, [*BOTH, *acts])
+        person.is_so(beyond == [], '%s: in sight: %s' % (told, beyond))
+        person.is_so(person.run(OVERLAPS) == [], '%s: %s' % (told, person.run(OVERLAPS)))
+        person.is_so(person.run(SQUEEZED) == [], '%s: names: %s' % (told, person.run(SQUEEZED)))
+        least = 0.66 if person.sees('#linked') else 0.84
+        person.is_so(person.box('#board .board')['height'] >= least * height, '%s: the board is large' % told)
+    return person
+
+
+def a_phone_on_its_side(hall):
+    """A phone on its side, in a game: the whole board, both clocks, the moves and what can be done are in sight, for
+    who plays and who watches, where a draw is offered, behind the end, and in every language; a finger plays there."""
+    number, ann, bob, sue = hall.begin(minutes='90', increment='30', second=('40', '30'))
+    hall.play(['e2e4', 'e7e5', 'g1f3', 'b8c6', 'f1b5', 'a7a6', 'b5c6', 'd7c6', 'e1g1'])
+    for person in (ann, bob, sue):
+        is_on_its_side(person, person.name, *ACTS if person is not sue else ())
+    bob.screen(*SIDEWAYS[0][:2], 1, True)
+    time.sleep(0.3)
+    bob.touch('f7').until(lambda: bob.lit() == {'f6', 'f5'}, 'a touch takes a man')
+    bob.touch('f6')
+    ann.until(lambda: len(ann.moves()) == 10, 'and puts it down')
+    bob.click('#offer')
+    ann.finds('#offered', 'an offer')
+    is_on_its_side(ann, 'an offer', '#accept', '#decline', '#resign')
+    for width, height, phone in SIDEWAYS[::2]:
+        ann.screen(width, height, 1, phone)
+        time.sleep(0.3)
+        reads_well(ann, 'an offer, %d x %d' % (width, height))
+    keys_go_round(ann, 'a phone on its side')
+    ann.click('#decline')
+    for language in in_languages(ann):
+        ann.reload().finds('#resign', 'the game in ' + language).finds('#moves [aria-current]', 'its moves')
+        ann.is_so(ann.run('return document.documentElement.lang') == language, language)
+        is_on_its_side(ann, language, *ACTS)
+    ann.asked('#resign')
+    ann.reads('#outcome', 'Black wins by resignation')
+    is_on_its_side(ann, 'behind the end', '#outcome')
+    for view, css in (('again/' + number, '#again-board .board'), ('', '#over-list'), ('games', '#finished-save'),
+                      ('hall', '#hall-none'), ('round', '#round-none')):
+        ann.goes(view).finds(css, view)
+        for told, *_ in on_screens(ann, view, SIDEWAYS):
+            if view.startswith('again'):
+                beyond = ann.run(BEYOND, [css, '#again-next'])
+                ann.is_so(beyond == [], '%s: in sight: %s' % (told, beyond))
+    ann.is_quiet()
 
 
 def read_by_all(hall):
@@ -824,5 +887,5 @@ def the_first_minutes(hall):
 
 
 EVENING = (no_dead_buttons, handy_moves, full_names, planned_moves, asked_first, heard_tones, own_marks, taken_men,
-           boards_and_men, told_elsewhere, slow_answers, foreign_links, room_for_all, read_by_all, in_german,
-           in_every_language, the_board_stays, offers_end, a_killed_browser, looked_at_again, the_first_minutes)
+           boards_and_men, told_elsewhere, slow_answers, foreign_links, room_for_all, a_phone_on_its_side, read_by_all,
+           in_german, in_every_language, the_board_stays, offers_end, a_killed_browser, looked_at_again, the_first_minutes)
