@@ -6,7 +6,8 @@ import { readDecided } from './lines.js';
 import { byId, read, setText, write } from './make.js';
 
 const HIDDEN = 'hidden-announcement';  // of this tab: what was announced as it was hidden
-const tab = () => sessionStorage;
+const DEFAULT = 'hidden-default';      // of this browser: the board without a game that was hidden last
+const tab = () => sessionStorage, local = () => localStorage;
 /** What is told, the most urgent first: of these the first two are told in red. */
 const TOLD = ['#told', '#invited', '#challenges > *', '#decided', '#announced', '#taken-back'];
 const URGENT = TOLD.slice(0, 2);
@@ -22,15 +23,27 @@ export function announcedTold(text) {
   dispatchEvent(new Event('announced'));
 }
 
-/** The line `decided ROUND BOARD RESULT ARTICLE REASON`, by {names, isOwn}: who has the board, where that is known, and
- * whether one has it oneself. One's own stays until it is hidden; of another's nothing is shown while one plays. */
-export function decidedTold(line, { names, isOwn }) {
+/** The line `decided ROUND BOARD RESULT ARTICLE REASON`, by {event, names, isOwn}: who has the board, where that is known,
+ * and whether one has it oneself. One's own stays until it is hidden; of another's nothing is shown while one plays. */
+export function decidedTold(line, { event, names, isOwn }) {
   const { round, board, score, why } = readDecided(line), banner = byId('decided');
   if (!isOwn && !banner.hidden && !banner.classList.contains('others')) return;
   setText(byId('decided-words'), names
     ? t`The arbiter has decided board ${board} of round ${round}, ${names}: ${score}. Why: ${why}`
     : t`The arbiter has decided board ${board} of round ${round}: ${score}. Why: ${why}`);
   banner.classList.toggle('others', !isOwn);
+  banner.dataset.key = isOwn ? `${event} ${round} ${board} ${score}` : '';
+  banner.hidden = false;
+}
+
+/** One's own board of the newest round for which a player did not come, {event, round, board, names, score}: who comes
+ * too late reads why the game is lost. */
+export function defaultTold({ event, round, board, names, score }) {
+  const key = `${event} ${round} ${board} ${score}`, banner = byId('decided');
+  if (!banner.hidden || read(local, DEFAULT) === key) return;
+  setText(byId('decided-words'), t`Board ${board} of round ${round}, ${names}: ${score}. Who does not come in time loses.`);
+  banner.classList.remove('others');
+  banner.dataset.key = key;
   banner.hidden = false;
 }
 
@@ -39,7 +52,11 @@ export function listenToAnnounced() {
     write(tab, HIDDEN, announced);
     byId('announced').hidden = true;
   });
-  byId('hide-decided').addEventListener('click', () => { byId('decided').hidden = true; });
+  byId('hide-decided').addEventListener('click', () => {
+    const { key } = byId('decided').dataset;
+    if (key) write(local, DEFAULT, key);
+    byId('decided').hidden = true;
+  });
   listenToNews();
 }
 

@@ -108,6 +108,19 @@ export class RoundFile {
     return found ? [found.white, found.black].map((number) => this.told.players[number - 1]).filter(Boolean) : null;
   }
 
+  /** The board of the newest round that a player has and for which one of the two did not come: {event, round, board,
+   * names, score}; null where there is none. */
+  defaultOf(name) {
+    const { told } = this, round = this.newest();
+    for (const { board, result, bye } of told && !isOfTeams(told) && told.rounds[round - 1] || []) {
+      const seats = bye ? [] : this.seatsAt({ round, board });
+      if (seats.some((one) => one.name === name) && /^[+-]\//.test(result)) {
+        return { event: told.event, round, board, names: seats.map(({ full }) => full).join(' – '), score: resultText(result) };
+      }
+    }
+    return null;
+  }
+
   /** The boards of which the file tells what the Laws ask of their game: {round, board, game, white, black, law}. */
   asked() {
     const seat = (number) => (this.told.players[number - 1] || { full: '' }).full;
@@ -173,6 +186,7 @@ export class RoundView extends RoundFile {
     byId('to-round').hidden = !this.told;
     this.render();
     if (!isOther) return;
+    this.app.tellDefault();
     if (view === desk) desk.renderRound();
     else if ([game, table, hall, finished].includes(view)) view.render();
   }

@@ -918,6 +918,8 @@ export const WORDS = {
   'for this reason, if any': 'om deze reden, als die er is',
   'Offer a draw?': 'Remise aanbieden?',
   'It stands until your opponent declines it or moves.': 'Het aanbod geldt tot je tegenstander het afwijst of zet.',
+  'Board {0} of round {1}, {2}: {3}. Who does not come in time loses.':
+    'Bord {0} van ronde {1}, {2}: {3}. Wie niet op tijd komt, verliest.',
   'The arbiter has decided board {0} of round {1}: {2}. Why: {3}':
     'De arbiter heeft bord {0} van ronde {1} beslist: {2}. Reden: {3}',
   'The decision could not be put down: look whether round and board are right; else tell who runs the lobby.':

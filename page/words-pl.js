@@ -908,6 +908,8 @@ export const WORDS = {
   'Offer a draw?': 'Zaproponować remis?',
   'It stands until your opponent declines it or moves.':
     'Propozycja stoi, dopóki przeciwnik jej nie odrzuci albo nie wykona ruchu.',
+  'Board {0} of round {1}, {2}: {3}. Who does not come in time loses.':
+    'Szachownica {0} rundy {1}, {2}: {3}. Kto nie przyjdzie na czas, przegrywa.',
   'The arbiter has decided board {0} of round {1}: {2}. Why: {3}':
     'Sędzia rozstrzygnął szachownicę {0} rundy {1}: {2}. Powód: {3}',
   'The decision could not be put down: look whether round and board are right; else tell who runs the lobby.':
