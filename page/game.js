@@ -44,6 +44,12 @@ const TAKEN_OFF = t`This game was taken off the table.`;
 const PENALTY = 120000;              // milliseconds that a wrong claim gives to the opponent
 const LOOKS_SLOW = 1000, SAID_SLOW = 4000;        // after so long without an answer
 
+/** A move that was typed, whose castling may have zeros or small letters, and a small letter for a man that is no file's. */
+function withCapitals(text) {
+  return text.replace(/^[0o]-[0o](-[0o])?/i, (castling) => castling.toUpperCase().replaceAll('0', 'O'))
+    .replace(/^[i-z](?=[a-h1-8x])/, (letter) => letter.toUpperCase());
+}
+
 export class GameView {
   /** app: {wire, me(), nameWords(name), go(route)}. */
   constructor(app) {
@@ -324,7 +330,7 @@ export class GameView {
       this.news(t`The arbiter, ${this.app.nameWords(arbiter)}, has ended the game. It does not count.`);
     } else if (arbiter) this.news(t`The arbiter, ${this.app.nameWords(arbiter)}, has entered ${enteredWords(word)} for ${
       own ? t`you` : name}.`);
-    else if (word === 'join') this.news(t`${name} has joined. The game has begun.`);
+    else if (word === 'join') this.news(own ? t`The game has begun.` : t`${name} has joined. The game has begun.`);
     else if (word === 'offer' && !own && this.seat()) say(t`${name} offers a draw.`);
     else if (word === 'offer') this.news(own ? t`You have offered a draw.` : t`${name} offers a draw.`);
     else if (word === 'decline') this.news(own ? t`You have declined the draw.` : t`${name} declines the draw.`);
@@ -458,7 +464,7 @@ export class GameView {
   }
 
   typed() {
-    const field = byId('move-text'), text = field.value.trim().replace(/^0-0-0/, 'O-O-O').replace(/^0-0/, 'O-O');
+    const field = byId('move-text'), text = withCapitals(field.value.trim());
     if (!text || !this.standing) return;
     if (!/^[\x21-\x7e]{1,16}$/.test(text)) {
       this.note(t`A move is one word, such as e4, Nf3, exd5, O-O or e2e4.`);
@@ -637,13 +643,22 @@ export class GameView {
   /** A new game of the same times, with the colours changed: offered to the opponent, or taken where he offers it. An
    * arbiter, whose word would pair the two at once, opens it. */
   async rematch() {
-    const times = readTimes(this.tags.TimeControl || ''), { white, black } = this.standing, { app } = this;
-    if (!times) return;
-    const period = times.moves ? `${times.moves}/${times.initial}:${times.second}` : times.initial;
-    const rest = `${period} ${times.increment}${this.tags.FEN ? ` ${this.tags.FEN}` : ''}`;
-    const note = (text) => this.note(text);
+    const rest = this.sameTimes(), note = (text) => this.note(text), { app } = this;
+    if (!rest) return;
     if (app.isArbiter()) app.openGame(`open ${this.seat() === 'w' ? 'black' : 'white'} ${rest}`, note);
-    else if (await app.challenges.say(`${black} ${white} ${rest}`, note)) this.news(t`It is offered.`);
+    else if (await app.challenges.say(this.rematchLine(), note)) this.news(t`It is offered.`);
+  }
+
+  /** The game's times and start, as one is opened by them; '' where they are not told. */
+  sameTimes() {
+    const times = readTimes(this.tags.TimeControl || '');
+    if (!times) return '';
+    const period = times.moves ? `${times.moves}/${times.initial}:${times.second}` : times.initial;
+    return `${period} ${times.increment}${this.tags.FEN ? ` ${this.tags.FEN}` : ''}`;
+  }
+
+  rematchLine() {
+    return `${this.standing.black} ${this.standing.white} ${this.sameTimes()}`;
   }
 
   /** Offers a way to another game: the opponent has opened one. */

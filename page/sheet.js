@@ -114,9 +114,18 @@ export function drawActions(game) {
   show('drop', (game.app.isArbiter() || seat) && !game.started());
   byId('look-again').hidden = !game.started() || game.isPlaying();
   const areHere = !game.kept || [standing.white, standing.black].every((name) => game.app.players.has(name));
-  show('again', standing.article && seat && game.tags.TimeControl && areHere);
+  show('again', standing.article && seat && !game.adjournedBy && game.tags.TimeControl && areHere, !drawRematch(game));
   byId('move-form').hidden = !(runs && seat) || Boolean(game.proposed);
   byId('actions').hidden = Boolean(game.proposed) || ![...byId('actions').children].some((one) => !one.hidden);
+}
+
+/** What "Rematch" says, which may be offered; whether one offers it already. */
+function drawRematch(game) {
+  const { challenges } = game.app, line = game.rematchLine(), seat = game.seat(), { white, black } = game.standing;
+  const [own, other] = seat === 'b' ? [black, white] : [white, black], isAsked = challenges.stands(other, line);
+  setText(byId('again'), isAsked ? t`Accept the rematch` : challenges.stands(own, line) ? t`Rematch offered` : t`Rematch`);
+  byId('again').classList.toggle('strong', isAsked);
+  return challenges.stands(own, line);
 }
 
 /** The move that waits to be agreed to: `knight g1–f3`. */

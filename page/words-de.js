@@ -921,6 +921,9 @@ export const WORDS = {
   'It stands until your opponent declines it or moves.': 'Das Angebot steht, bis dein Gegner es ablehnt oder zieht.',
   'Board {0} of round {1}, {2}: {3}. Who does not come in time loses.':
     'Brett {0} der Runde {1}, {2}: {3}. Wer nicht rechtzeitig kommt, verliert.',
+  'The game has begun.': 'Die Partie hat begonnen.',
+  'Accept the rematch': 'Revanche annehmen',
+  'Rematch offered': 'Revanche angeboten',
   'The arbiter has decided board {0} of round {1}: {2}. Why: {3}':
     'Der Schiedsrichter hat Brett {0} der Runde {1} entschieden: {2}. Grund: {3}',
   'The decision could not be put down: look whether round and board are right; else tell who runs the lobby.':

@@ -912,6 +912,9 @@ export const WORDS = {
   'It stands until your opponent declines it or moves.': 'La oferta vale hasta que tu rival la rechace o juegue.',
   'Board {0} of round {1}, {2}: {3}. Who does not come in time loses.':
     'Mesa {0} de la ronda {1}, {2}: {3}. Quien no llega a tiempo pierde.',
+  'The game has begun.': 'La partida ha empezado.',
+  'Accept the rematch': 'Aceptar la revancha',
+  'Rematch offered': 'Revancha ofrecida',
   'The arbiter has decided board {0} of round {1}: {2}. Why: {3}':
     'El árbitro ha decidido la mesa {0} de la ronda {1}: {2}. Motivo: {3}',
   'The decision could not be put down: look whether round and board are right; else tell who runs the lobby.':

@@ -928,6 +928,9 @@ export const WORDS = {
     'La proposition tient jusqu’à ce que votre adversaire la refuse ou joue.',
   'Board {0} of round {1}, {2}: {3}. Who does not come in time loses.':
     'Échiquier {0} de la ronde {1}, {2} : {3}. Qui n’arrive pas à temps perd.',
+  'The game has begun.': 'La partie a commencé.',
+  'Accept the rematch': 'Accepter la revanche',
+  'Rematch offered': 'Revanche proposée',
   'The arbiter has decided board {0} of round {1}: {2}. Why: {3}':
     'L’arbitre a décidé l’échiquier {0} de la ronde {1} : {2}. Motif : {3}',
   'The decision could not be put down: look whether round and board are right; else tell who runs the lobby.':

@@ -917,6 +917,9 @@ export const WORDS = {
   'It stands until your opponent declines it or moves.': 'L’offerta vale finché l’avversario non la rifiuta o muove.',
   'Board {0} of round {1}, {2}: {3}. Who does not come in time loses.':
     'Scacchiera {0} del turno {1}, {2}: {3}. Chi non arriva in tempo perde.',
+  'The game has begun.': 'La partita è cominciata.',
+  'Accept the rematch': 'Accetta la rivincita',
+  'Rematch offered': 'Rivincita offerta',
   'The arbiter has decided board {0} of round {1}: {2}. Why: {3}':
     'L’arbitro ha deciso la scacchiera {0} del turno {1}: {2}. Motivo: {3}',
   'The decision could not be put down: look whether round and board are right; else tell who runs the lobby.':

@@ -920,6 +920,9 @@ export const WORDS = {
   'It stands until your opponent declines it or moves.': 'Het aanbod geldt tot je tegenstander het afwijst of zet.',
   'Board {0} of round {1}, {2}: {3}. Who does not come in time loses.':
     'Bord {0} van ronde {1}, {2}: {3}. Wie niet op tijd komt, verliest.',
+  'The game has begun.': 'De partij is begonnen.',
+  'Accept the rematch': 'Revanche aannemen',
+  'Rematch offered': 'Revanche aangeboden',
   'The arbiter has decided board {0} of round {1}: {2}. Why: {3}':
     'De arbiter heeft bord {0} van ronde {1} beslist: {2}. Reden: {3}',
   'The decision could not be put down: look whether round and board are right; else tell who runs the lobby.':

@@ -910,6 +910,9 @@ export const WORDS = {
     'Propozycja stoi, dopóki przeciwnik jej nie odrzuci albo nie wykona ruchu.',
   'Board {0} of round {1}, {2}: {3}. Who does not come in time loses.':
     'Szachownica {0} rundy {1}, {2}: {3}. Kto nie przyjdzie na czas, przegrywa.',
+  'The game has begun.': 'Partia się zaczęła.',
+  'Accept the rematch': 'Przyjmij rewanż',
+  'Rematch offered': 'Rewanż zaproponowany',
   'The arbiter has decided board {0} of round {1}: {2}. Why: {3}':
     'Sędzia rozstrzygnął szachownicę {0} rundy {1}: {2}. Powód: {3}',
   'The decision could not be put down: look whether round and board are right; else tell who runs the lobby.':

@@ -907,6 +907,9 @@ export const WORDS = {
   'It stands until your opponent declines it or moves.': 'A proposta vale até o adversário a recusar ou jogar.',
   'Board {0} of round {1}, {2}: {3}. Who does not come in time loses.':
     'Tabuleiro {0} da ronda {1}, {2}: {3}. Quem não chega a tempo perde.',
+  'The game has begun.': 'A partida começou.',
+  'Accept the rematch': 'Aceitar a desforra',
+  'Rematch offered': 'Desforra proposta',
   'The arbiter has decided board {0} of round {1}: {2}. Why: {3}':
     'O árbitro decidiu o tabuleiro {0} da ronda {1}: {2}. Motivo: {3}',
   'The decision could not be put down: look whether round and board are right; else tell who runs the lobby.':
