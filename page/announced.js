@@ -1,5 +1,5 @@
 // What an arbiter announces, which every page shows until it is taken away or hidden there; what is decided about a board,
-// which every page that is open then shows until it is hidden there; and the line of the head that has it while one plays.
+// which every page that is open then shows until it is hidden there; and the line of the head that has it at one's own board.
 
 import { t } from './language.js';
 import { readDecided } from './lines.js';

@@ -141,7 +141,7 @@ export class GameView {
   close() {
     this.number = 0;
     this.root.hidden = true;
-    document.body.classList.remove('plays');
+    document.body.classList.remove('plays', 'at-board');
     Object.values(this.clocks).forEach((clock) => clock.stop());
     for (const what of ['offer', 'claim', 'resign', 'drop']) byId(`${what}-dialog`).close();
   }
@@ -767,6 +767,7 @@ export class GameView {
       : this.app.me() ? refusalWords({ number: NO_GAME })
         : t`Game ${this.number} is not being played. It is shown here as soon as it begins.`);
     document.body.classList.toggle('plays', !this.gone && this.isPlaying());
+    document.body.classList.toggle('at-board', !this.gone && this.started() && this.seat() !== '');
     if (!standing || this.gone) return;
     if (this.plan && this.myTurn()) this.back = null;
     drawPlayers(this);

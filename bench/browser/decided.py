@@ -36,7 +36,10 @@ def decides(hall, number, told, **wanted):
     """It is decided: every page is told this, and the last line of the round's decisions says so."""
     hall.sue.click('#decide-it').loses('#decide-dialog', 'it is decided')
     for person in (hall.bob, hall.sue):
-        person.reads('#decided-words', told).click('#hide-decided').loses('#decided', 'that is hidden')
+        person.reads('#decided-words', told)
+        if not person.sees('#hide-decided'):
+            person.click('#telling-opens')
+        person.click('#hide-decided').loses('#decided', 'that is hidden')
     with open(os.path.join(hall.lobby.folder, 'round%d.decisions' % number), encoding='utf-8') as file:
         line = json.loads(file.readlines()[-1])
     hall.sue.is_so({name: line[name] for name in wanted} == wanted, 'which is put down: %s' % line)

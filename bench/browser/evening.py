@@ -35,7 +35,7 @@ def no_dead_buttons(hall):
     ann.until(lambda: ann.sees('#again') and ann.find('#again').is_enabled(), 'the game is shown again')
     ann.click('#again').reads('#challenges', 'You offer Bob')
     bob.reads('#challenges', 'Ann Lee offers you a game, 20+3: you are White')
-    bob.click('#challenges .banner button.strong').until(lambda: not bob.driver.current_url.endswith('/' + number),
+    bob.click('#telling-opens', '#challenges .banner button.strong').until(lambda: not bob.driver.current_url.endswith('/' + number),
                                                          'another game is there')
     ann.reads('#outcome', 'Waiting for your opponent')
     ann.is_quiet()
@@ -498,7 +498,8 @@ def read_by_all(hall):
     well(ann, 'a move ahead')
     ann.tap('a5').until(lambda: not planned(ann), 'taken back')
     other = by_lines(hall, 'eve', 'pair ann cid 1200 0')[0].split(' ')[2]
-    well(ann, 'another game of one’s own', '#invited')
+    ann.reads('#telling-words', 'Your game %s against' % other)
+    well(ann, 'another game of one’s own', '#telling.urgent')
     by_lines(hall, 'eve', 'as cid resign ' + other)
     bob.asked('#offer')
     well(ann, 'an offer', '#offered')
