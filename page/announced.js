@@ -9,7 +9,7 @@ const HIDDEN = 'hidden-announcement';  // of this tab: what was announced as it 
 const DEFAULT = 'hidden-default';      // of this browser: the board without a game that was hidden last
 const tab = () => sessionStorage, local = () => localStorage;
 /** What is told, the most urgent first: of these the first two are told in red. */
-const TOLD = ['#told', '#invited', '#challenges > *', '#decided', '#announced', '#taken-back'];
+const TOLD = ['#told', '#invited', '#challenges > *', '#decided', '#defaulted', '#announced', '#taken-back'];
 const URGENT = TOLD.slice(0, 2);
 
 /** What the arbiter announces, as the lobby tells it; empty where that is nothing. */
@@ -32,19 +32,28 @@ export function decidedTold(line, { event, names, isOwn }) {
     ? t`The arbiter has decided board ${board} of round ${round}, ${names}: ${score}. Why: ${why}`
     : t`The arbiter has decided board ${board} of round ${round}: ${score}. Why: ${why}`);
   banner.classList.toggle('others', !isOwn);
-  banner.dataset.key = isOwn ? `${event} ${round} ${board} ${score}` : '';
+  banner.hidden = false;
+  if (isOwn) hideDefault(`${event} ${round} ${board} ${score}`);
+}
+
+/** One's own board of the newest round for which a player did not come, {event, round, board, names, score}, or null: who
+ * comes too late reads why the game is lost. */
+export function defaultTold(found) {
+  const { event, round, board, names, score } = found || {}, banner = byId('defaulted');
+  const key = `${event} ${round} ${board} ${score}`;
+  if (!found || read(local, DEFAULT) === key) {
+    banner.hidden = true;
+    return;
+  }
+  setText(byId('defaulted-words'), t`Board ${board} of round ${round}, ${names}: ${score}. Who does not come in time loses.`);
+  banner.dataset.key = key;
   banner.hidden = false;
 }
 
-/** One's own board of the newest round for which a player did not come, {event, round, board, names, score}: who comes
- * too late reads why the game is lost. */
-export function defaultTold({ event, round, board, names, score }) {
-  const key = `${event} ${round} ${board} ${score}`, banner = byId('decided');
-  if (!banner.hidden || read(local, DEFAULT) === key) return;
-  setText(byId('decided-words'), t`Board ${board} of round ${round}, ${names}: ${score}. Who does not come in time loses.`);
-  banner.classList.remove('others');
-  banner.dataset.key = key;
-  banner.hidden = false;
+/** That is told no more, in this browser. */
+function hideDefault(key) {
+  write(local, DEFAULT, key);
+  byId('defaulted').hidden = true;
 }
 
 export function listenToAnnounced() {
@@ -52,11 +61,8 @@ export function listenToAnnounced() {
     write(tab, HIDDEN, announced);
     byId('announced').hidden = true;
   });
-  byId('hide-decided').addEventListener('click', () => {
-    const { key } = byId('decided').dataset;
-    if (key) write(local, DEFAULT, key);
-    byId('decided').hidden = true;
-  });
+  byId('hide-decided').addEventListener('click', () => { byId('decided').hidden = true; });
+  byId('hide-defaulted').addEventListener('click', () => hideDefault(byId('defaulted').dataset.key || ''));
   listenToNews();
 }
 

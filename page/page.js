@@ -482,14 +482,14 @@ class Page {
     round.decides(told);
     if (!round.seatsAt(told)) await round.look();
     const seats = round.seatsAt(told), me = this.me();
-    decidedTold(line, { event: round.told ? round.told.event : '', names: seats ? seats.map(({ full }) => full).join(' – ') : '',
+    decidedTold(line, { event: round.told ? round.told.event : '',
+      names: seats ? seats.map(({ full }) => full).join(' – ') : '',
       isOwn: Boolean(me && seats && seats.some(({ name }) => name === me)) });
   }
 
-  /** One's own board of the newest round to which a player did not come. */
+  /** One's own board of the newest round to which a player did not come, if there is one. */
   tellDefault() {
-    const found = this.me() && this.round.defaultOf(this.me());
-    if (found) defaultTold(found);
+    defaultTold(this.me() ? this.round.defaultOf(this.me()) : null);
   }
 
   /** What stands in the lobby's place may tell why, as that the disk is full. */
