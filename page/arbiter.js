@@ -549,7 +549,7 @@ export class ArbiterView {
       return;
     }
     if (kind === 'decide') {
-      this.decision.ask(card.standing);
+      this.decision.ask(card.standing, card.at);
       return;
     }
     if (kind === 'adjourn') {
@@ -653,10 +653,10 @@ export class ArbiterView {
     setText(byId('entries'), this.arePaused ? t`New games: stopped` : t`New games: allowed`);
   }
 
-  /** Stops all clocks, for the reason that is written, or has them run again. */
+  /** Stops all clocks, for the reason that is written, if any, or has them run again. */
   clocks() {
     const field = byId('stop-reason');
-    this.tellAll(stopped ? 'start clocks' : `stop clocks ${plain(field.value.trim())}`, field);
+    this.tellAll(stopped ? 'start clocks' : `stop clocks ${plain(field.value.trim() || t`please wait`)}`, field);
   }
 
   /** Says to the lobby what it tells every page; the field of it is empty then. */
@@ -669,7 +669,6 @@ export class ArbiterView {
 
   renderClocks() {
     byId('stop-reason').hidden = byId('stop-label').hidden = Boolean(stopped);
-    byId('stop-reason').required = !stopped;
     setText(byId('stop-clocks'), stopped ? t`Start the clocks` : t`Stop the clocks`);
   }
 

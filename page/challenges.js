@@ -73,6 +73,7 @@ export class Challenges {
     }
     for (const row of rows) if (!this.items.has(row)) this.items.set(row, this.item(row));
     arrange(byId('challenges'), rows.map((row) => this.items.get(row)));
+    if (this.app.view === this.app.game) this.app.game.render();
     this.said = new Set(rows.filter((row) => this.said.has(row)));
     for (const row of rows) if (!this.said.has(row) && !this.isOwn(row)) this.tell(row);
   }
@@ -86,6 +87,11 @@ export class Challenges {
     say(words);
     sound('offer');
     this.app.turns.tell(words);
+  }
+
+  /** Whether a player offers this game, `WHITE BLACK TIMES`. */
+  stands(by, line) {
+    return this.items.has(`${by} ${line}`);
   }
 
   isOwn(row) {
@@ -139,6 +145,7 @@ export class Challenges {
   /** Offers a game, or takes one that is offered in the same words, `WHITE BLACK TIMES`; whether it is offered now. */
   async say(line, note) {
     this.parted = '';
+    byId('taken-back').hidden = true;
     const [answer] = await this.app.wire.say(`pair ${line}`), refusal = readRefusal(answer);
     if (answer.startsWith('ok pair ')) this.app.go(`/game/${answer.split(' ')[2]}`);
     if (refusal) note(refusalWords(refusal));

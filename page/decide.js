@@ -83,9 +83,9 @@ export class Decision {
     return told && told.standing;
   }
 
-  /** Asks what the board of a game shall have that stands so; what is likely is filled in. */
-  ask(standing) {
-    const { number } = standing, fields = this.form.elements, at = performance.now();
+  /** Asks what the board of a game shall have that stood so at the moment `at`; what is likely is filled in. */
+  ask(standing, at = performance.now()) {
+    const { number } = standing, fields = this.form.elements;
     const [white, black] = [standing.white, standing.black].map((name) => this.nameOf(name));
     Object.assign(this, { about: number, standing });
     for (const name of FILLED) fields[name].value = '';

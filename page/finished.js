@@ -183,7 +183,8 @@ export function keptItem(game, result) {
     make('span', { class: 'unseen' }, side === 'white' ? t`white: ` : t`black: `),
     make('span', { class: 'name' }, name));
   const score = resultText(result);
-  const reason = result === tags.Result ? resultWords(result, tags.Article || '').reason : decidedWords(result);
+  const why = result === tags.Result ? resultWords(result, tags.Article || '').reason : decidedWords(result);
+  const reason = bothMoved(game) ? why : t`It does not count: not both have moved`;
   return make('li', { class: 'game-row' }, make('a', { href: `#/game/${number}`, class: 'pairing' },
     make('span', { class: 'number' }, make('span', { class: 'unseen' }, t`Game `), String(number)),
     make('span', { class: 'pair' }, seat(tags.White, 'white'), seat(tags.Black, 'black')),

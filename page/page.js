@@ -1,7 +1,7 @@
 // The page: which view is open, and the connection that all of it shares.
 
 import { AgainView } from './again.js';
-import { announcedTold, decidedTold, listenToAnnounced } from './announced.js';
+import { announcedTold, decidedTold, defaultTold, listenToAnnounced } from './announced.js';
 import { ArbiterView } from './arbiter.js';
 import { Broadcast } from './broadcast.js';
 import { Challenges } from './challenges.js';
@@ -393,6 +393,7 @@ class Page {
     await this.who.login();
     if (wire !== this.wire) return;      // (the link does not hold)
     this.challenges.look();              // (only now the lobby knows whose connection it is)
+    this.tellDefault();
     if (server !== 'here') return;
     await this.askPlayers();
     await this.atTable();
@@ -483,9 +484,19 @@ class Page {
   }
 
   /** An arbiter has decided a board. */
-  decided(line) {
-    decidedTold(line);
-    this.round.decides(readDecided(line));
+  async decided(line) {
+    const told = readDecided(line), { round } = this;
+    round.decides(told);
+    if (!round.seatsAt(told)) await round.look();
+    const seats = round.seatsAt(told), me = this.me();
+    decidedTold(line, { event: round.told ? round.told.event : '',
+      names: seats ? seats.map(({ full }) => full).join(' – ') : '',
+      isOwn: Boolean(me && seats && seats.some(({ name }) => name === me)) });
+  }
+
+  /** One's own board of the newest round to which a player did not come, if there is one. */
+  tellDefault() {
+    defaultTold(this.me() ? this.round.defaultOf(this.me()) : null);
   }
 
   /** What stands in the lobby's place may tell why, as that the disk is full. */

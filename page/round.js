@@ -70,6 +70,11 @@ export class RoundFile {
     this.looked(true);
   }
 
+  /** Whether boards were decided, and nothing tells of which games they are. */
+  decidesUnseen() {
+    return !this.told && this.decisions.size > 0;
+  }
+
   /** What an arbiter has decided of a game that is over by the server's result, {result, why}; null where nothing is known
    * of that: of who did not come, the file has `+/-` by the server's result too. */
   decided(number, result) {
@@ -106,6 +111,27 @@ export class RoundFile {
     const found = boards && boards.find((one) => one.board === board);
     const name = (number) => (this.told.players[number - 1] || { name: '' }).name;
     return found ? { ...found, round, white: name(found.white), black: name(found.black) } : null;
+  }
+
+  /** Who has a board of a round, {round, board}: White and Black by {name, full}, as they were told last; null where that
+   * is not told. */
+  seatsAt({ round, board }) {
+    const boards = this.told && !isOfTeams(this.told) && this.told.rounds[round - 1] || [];
+    const found = boards.find((one) => one.board === Number(board));
+    return found ? [found.white, found.black].map((number) => this.told.players[number - 1]).filter(Boolean) : null;
+  }
+
+  /** The board of the newest round that a player has and for which one of the two did not come: {event, round, board,
+   * names, score}; null where there is none. */
+  defaultOf(name) {
+    const { told } = this, round = this.newest();
+    for (const { board, result, bye } of told && !isOfTeams(told) && told.rounds[round - 1] || []) {
+      const seats = bye ? [] : this.seatsAt({ round, board });
+      if (seats.some((one) => one.name === name) && /^[+-]\//.test(result)) {
+        return { event: told.event, round, board, names: seats.map(({ full }) => full).join(' – '), score: resultText(result) };
+      }
+    }
+    return null;
   }
 
   /** The boards of which the file tells what the Laws ask of their game: {round, board, game, white, black, law}. */
@@ -173,6 +199,7 @@ export class RoundView extends RoundFile {
     byId('to-round').hidden = !this.told;
     this.render();
     if (!isOther) return;
+    this.app.tellDefault();
     if (view === desk) desk.renderRound();
     else if ([game, table, hall, finished].includes(view)) view.render();
   }

@@ -295,13 +295,13 @@ export class TableView {
     }
   }
 
-  /** A position is for one game: the next begins from the usual one. */
+  /** A position and an opponent are for one game: the next begins from the usual one, and is anybody's. */
   opened() {
-    byId('open-form').elements.fen.value = '';
+    byId('open-form').elements.fen.value = byId('against').value = '';
     byId('open-form').querySelector('.from-position').open = false;
   }
 
-  submit() {
+  async submit() {
     const form = byId('open-form').elements;
     const colour = form.colour.value || (crypto.getRandomValues(new Uint8Array(1))[0] % 2 ? 'white' : 'black');
     const fen = form.fen.value.trim();
@@ -312,8 +312,8 @@ export class TableView {
     this.note('');
     const rest = `${this.times.line()}${fen ? ' ' + fen : ''}`, note = (text) => this.note(text), me = this.app.me();
     const other = form.against.value, pair = colour === 'white' ? `${me} ${other}` : `${other} ${me}`;
-    if (other) this.app.challenges.say(`${pair} ${rest}`, note);
-    else this.app.openGame(`open ${colour} ${rest}`, note);
+    if (other && await this.app.challenges.say(`${pair} ${rest}`, note)) this.opened();
+    else if (!other) this.app.openGame(`open ${colour} ${rest}`, note);
   }
 }
 

@@ -909,6 +909,21 @@ export const WORDS = {
   'Line {0}: {1} cannot be played there. The rest of this variation is left out.':
     'Zeile {0}: {1} lässt sich dort nicht ziehen. Der Rest dieser Variante ist weggelassen.',
   'Decide it': 'Entscheiden',
+  'The arbiter has decided board {0} of round {1}, {2}: {3}. Why: {4}':
+    'Der Schiedsrichter hat Brett {0} der Runde {1}, {2}, entschieden: {3}. Grund: {4}',
+  'please wait': 'bitte warten',
+  'Make a new link for {0}, to print?': 'Einen neuen Link für {0} machen, zum Drucken?',
+  'The arbiter, {0}, has ended the game. It does not count.':
+    'Der Schiedsrichter, {0}, hat die Partie beendet. Sie zählt nicht.',
+  'It does not count: not both have moved': 'Sie zählt nicht: nicht beide haben gezogen',
+  'for this reason, if any': 'aus diesem Grund, wenn es einen gibt',
+  'Offer a draw?': 'Remis anbieten?',
+  'It stands until your opponent declines it or moves.': 'Das Angebot steht, bis dein Gegner es ablehnt oder zieht.',
+  'Board {0} of round {1}, {2}: {3}. Who does not come in time loses.':
+    'Brett {0} der Runde {1}, {2}: {3}. Wer nicht rechtzeitig kommt, verliert.',
+  'The game has begun.': 'Die Partie hat begonnen.',
+  'Accept the rematch': 'Revanche annehmen',
+  'Rematch offered': 'Revanche angeboten',
   'The arbiter has decided board {0} of round {1}: {2}. Why: {3}':
     'Der Schiedsrichter hat Brett {0} der Runde {1} entschieden: {2}. Grund: {3}',
   'The decision could not be put down: look whether round and board are right; else tell who runs the lobby.':

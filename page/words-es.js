@@ -901,6 +901,20 @@ export const WORDS = {
   'Line {0}: {1} cannot be played there. The rest of this variation is left out.':
     'Línea {0}: {1} no se puede jugar ahí. El resto de esta variante se omite.',
   'Decide it': 'Decidir',
+  'The arbiter has decided board {0} of round {1}, {2}: {3}. Why: {4}':
+    'El árbitro ha decidido la mesa {0} de la ronda {1}, {2}: {3}. Motivo: {4}',
+  'please wait': 'esperad, por favor',
+  'Make a new link for {0}, to print?': '¿Hacer un enlace nuevo para {0}, para imprimir?',
+  'The arbiter, {0}, has ended the game. It does not count.': 'El árbitro, {0}, ha terminado la partida. No cuenta.',
+  'It does not count: not both have moved': 'No cuenta: no han jugado los dos',
+  'for this reason, if any': 'por este motivo, si lo hay',
+  'Offer a draw?': '¿Ofrecer tablas?',
+  'It stands until your opponent declines it or moves.': 'La oferta vale hasta que tu rival la rechace o juegue.',
+  'Board {0} of round {1}, {2}: {3}. Who does not come in time loses.':
+    'Mesa {0} de la ronda {1}, {2}: {3}. Quien no llega a tiempo pierde.',
+  'The game has begun.': 'La partida ha empezado.',
+  'Accept the rematch': 'Aceptar la revancha',
+  'Rematch offered': 'Revancha ofrecida',
   'The arbiter has decided board {0} of round {1}: {2}. Why: {3}':
     'El árbitro ha decidido la mesa {0} de la ronda {1}: {2}. Motivo: {3}',
   'The decision could not be put down: look whether round and board are right; else tell who runs the lobby.':

@@ -212,7 +212,7 @@ export const WORDS = {
   '{0} to {1} of {2}': '{0} à {1} sur {2}',
   'It could not be copied. Mark it, and copy it by hand.':
     'La copie n’a pas réussi. Sélectionnez le lien et copiez-le à la main.',
-  'Make a new link for {0}?': 'Créer un nouveau lien pour {0} ?',
+  'Make a new link for {0}?': 'Faire un nouveau lien pour {0} ?',
   'Make it': 'Créer',
   'That is your own. The link that you have holds no more; this page goes on with the new one.':
     'C’est le vôtre. Le lien que vous avez ne sera plus valable ; cette page continue avec le nouveau.',
@@ -915,6 +915,22 @@ export const WORDS = {
   'Line {0}: {1} cannot be played there. The rest of this variation is left out.':
     'Ligne {0} : {1} ne peut pas y être joué. Le reste de cette variante est laissé de côté.',
   'Decide it': 'Décider',
+  'The arbiter has decided board {0} of round {1}, {2}: {3}. Why: {4}':
+    'L’arbitre a décidé l’échiquier {0} de la ronde {1}, {2} : {3}. Motif : {4}',
+  'please wait': 'veuillez patienter',
+  'Make a new link for {0}, to print?': 'Faire un nouveau lien pour {0}, à imprimer ?',
+  'The arbiter, {0}, has ended the game. It does not count.':
+    'L’arbitre, {0}, a mis fin à la partie. Elle ne compte pas.',
+  'It does not count: not both have moved': 'Elle ne compte pas : les deux n’ont pas joué',
+  'for this reason, if any': 'pour ce motif, s’il y en a un',
+  'Offer a draw?': 'Proposer la nulle ?',
+  'It stands until your opponent declines it or moves.':
+    'La proposition tient jusqu’à ce que votre adversaire la refuse ou joue.',
+  'Board {0} of round {1}, {2}: {3}. Who does not come in time loses.':
+    'Échiquier {0} de la ronde {1}, {2} : {3}. Qui n’arrive pas à temps perd.',
+  'The game has begun.': 'La partie a commencé.',
+  'Accept the rematch': 'Accepter la revanche',
+  'Rematch offered': 'Revanche proposée',
   'The arbiter has decided board {0} of round {1}: {2}. Why: {3}':
     'L’arbitre a décidé l’échiquier {0} de la ronde {1} : {2}. Motif : {3}',
   'The decision could not be put down: look whether round and board are right; else tell who runs the lobby.':

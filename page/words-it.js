@@ -906,6 +906,20 @@ export const WORDS = {
   'Line {0}: {1} cannot be played there. The rest of this variation is left out.':
     'Riga {0}: {1} lì non si può giocare. Il resto di questa variante è tralasciato.',
   'Decide it': 'Decidi',
+  'The arbiter has decided board {0} of round {1}, {2}: {3}. Why: {4}':
+    'L’arbitro ha deciso la scacchiera {0} del turno {1}, {2}: {3}. Motivo: {4}',
+  'please wait': 'attendere, prego',
+  'Make a new link for {0}, to print?': 'Fare un nuovo link per {0}, da stampare?',
+  'The arbiter, {0}, has ended the game. It does not count.': 'L’arbitro, {0}, ha chiuso la partita. Non conta.',
+  'It does not count: not both have moved': 'Non conta: non hanno mosso entrambi',
+  'for this reason, if any': 'per questo motivo, se c’è',
+  'Offer a draw?': 'Offrire la patta?',
+  'It stands until your opponent declines it or moves.': 'L’offerta vale finché l’avversario non la rifiuta o muove.',
+  'Board {0} of round {1}, {2}: {3}. Who does not come in time loses.':
+    'Scacchiera {0} del turno {1}, {2}: {3}. Chi non arriva in tempo perde.',
+  'The game has begun.': 'La partita è cominciata.',
+  'Accept the rematch': 'Accetta la rivincita',
+  'Rematch offered': 'Rivincita offerta',
   'The arbiter has decided board {0} of round {1}: {2}. Why: {3}':
     'L’arbitro ha deciso la scacchiera {0} del turno {1}: {2}. Motivo: {3}',
   'The decision could not be put down: look whether round and board are right; else tell who runs the lobby.':

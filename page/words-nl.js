@@ -908,6 +908,21 @@ export const WORDS = {
   'Line {0}: {1} cannot be played there. The rest of this variation is left out.':
     'Regel {0}: {1} kan daar niet gespeeld worden. De rest van deze variant is weggelaten.',
   'Decide it': 'Beslissen',
+  'The arbiter has decided board {0} of round {1}, {2}: {3}. Why: {4}':
+    'De arbiter heeft bord {0} van ronde {1}, {2}, beslist: {3}. Reden: {4}',
+  'please wait': 'even geduld',
+  'Make a new link for {0}, to print?': 'Een nieuwe link voor {0} maken, om af te drukken?',
+  'The arbiter, {0}, has ended the game. It does not count.':
+    'De arbiter, {0}, heeft de partij beëindigd. Ze telt niet mee.',
+  'It does not count: not both have moved': 'Ze telt niet mee: niet beiden hebben gezet',
+  'for this reason, if any': 'om deze reden, als die er is',
+  'Offer a draw?': 'Remise aanbieden?',
+  'It stands until your opponent declines it or moves.': 'Het aanbod geldt tot je tegenstander het afwijst of zet.',
+  'Board {0} of round {1}, {2}: {3}. Who does not come in time loses.':
+    'Bord {0} van ronde {1}, {2}: {3}. Wie niet op tijd komt, verliest.',
+  'The game has begun.': 'De partij is begonnen.',
+  'Accept the rematch': 'Revanche aannemen',
+  'Rematch offered': 'Revanche aangeboden',
   'The arbiter has decided board {0} of round {1}: {2}. Why: {3}':
     'De arbiter heeft bord {0} van ronde {1} beslist: {2}. Reden: {3}',
   'The decision could not be put down: look whether round and board are right; else tell who runs the lobby.':

@@ -898,6 +898,21 @@ export const WORDS = {
   'Line {0}: {1} cannot be played there. The rest of this variation is left out.':
     'Wiersz {0}: {1} nie może tam być zagrane. Resztę tego wariantu pominięto.',
   'Decide it': 'Rozstrzygnij',
+  'The arbiter has decided board {0} of round {1}, {2}: {3}. Why: {4}':
+    'Sędzia rozstrzygnął szachownicę {0} rundy {1}, {2}: {3}. Powód: {4}',
+  'please wait': 'proszę czekać',
+  'Make a new link for {0}, to print?': 'Utworzyć nowy link dla {0}, do druku?',
+  'The arbiter, {0}, has ended the game. It does not count.': 'Sędzia, {0}, zakończył partię. Nie liczy się.',
+  'It does not count: not both have moved': 'Nie liczy się: nie obie strony wykonały ruch',
+  'for this reason, if any': 'z tego powodu, jeśli jest',
+  'Offer a draw?': 'Zaproponować remis?',
+  'It stands until your opponent declines it or moves.':
+    'Propozycja stoi, dopóki przeciwnik jej nie odrzuci albo nie wykona ruchu.',
+  'Board {0} of round {1}, {2}: {3}. Who does not come in time loses.':
+    'Szachownica {0} rundy {1}, {2}: {3}. Kto nie przyjdzie na czas, przegrywa.',
+  'The game has begun.': 'Partia się zaczęła.',
+  'Accept the rematch': 'Przyjmij rewanż',
+  'Rematch offered': 'Rewanż zaproponowany',
   'The arbiter has decided board {0} of round {1}: {2}. Why: {3}':
     'Sędzia rozstrzygnął szachownicę {0} rundy {1}: {2}. Powód: {3}',
   'The decision could not be put down: look whether round and board are right; else tell who runs the lobby.':

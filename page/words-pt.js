@@ -896,6 +896,20 @@ export const WORDS = {
   'Line {0}: {1} cannot be played there. The rest of this variation is left out.':
     'Linha {0}: {1} não pode ser jogado ali. O resto desta variante fica de fora.',
   'Decide it': 'Decidir',
+  'The arbiter has decided board {0} of round {1}, {2}: {3}. Why: {4}':
+    'O árbitro decidiu o tabuleiro {0} da ronda {1}, {2}: {3}. Motivo: {4}',
+  'please wait': 'aguardem, por favor',
+  'Make a new link for {0}, to print?': 'Criar um novo link para {0}, para imprimir?',
+  'The arbiter, {0}, has ended the game. It does not count.': 'O árbitro, {0}, terminou a partida. Não conta.',
+  'It does not count: not both have moved': 'Não conta: não jogaram os dois',
+  'for this reason, if any': 'por este motivo, se houver',
+  'Offer a draw?': 'Propor empate?',
+  'It stands until your opponent declines it or moves.': 'A proposta vale até o adversário a recusar ou jogar.',
+  'Board {0} of round {1}, {2}: {3}. Who does not come in time loses.':
+    'Tabuleiro {0} da ronda {1}, {2}: {3}. Quem não chega a tempo perde.',
+  'The game has begun.': 'A partida começou.',
+  'Accept the rematch': 'Aceitar a desforra',
+  'Rematch offered': 'Desforra proposta',
   'The arbiter has decided board {0} of round {1}: {2}. Why: {3}':
     'O árbitro decidiu o tabuleiro {0} da ronda {1}: {2}. Motivo: {3}',
   'The decision could not be put down: look whether round and board are right; else tell who runs the lobby.':

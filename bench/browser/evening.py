@@ -35,7 +35,7 @@ def no_dead_buttons(hall):
     ann.until(lambda: ann.sees('#again') and ann.find('#again').is_enabled(), 'the game is shown again')
     ann.click('#again').reads('#challenges', 'You offer Bob')
     bob.reads('#challenges', 'Ann Lee offers you a game, 20+3: you are White')
-    bob.click('#challenges .banner button.strong').until(lambda: not bob.driver.current_url.endswith('/' + number),
+    bob.click('#telling-opens', '#challenges .banner button.strong').until(lambda: not bob.driver.current_url.endswith('/' + number),
                                                          'another game is there')
     ann.reads('#outcome', 'Waiting for your opponent')
     ann.is_quiet()
@@ -53,7 +53,7 @@ def handy_moves(hall):
     ann.on_move()
     ann.tap('g1', 'f1').is_so(ann.lit('.held') == {'f1'}, 'where the king cannot castle the rook is taken')
     ann.tap('a5')
-    bob.click('#offer')
+    bob.asked('#offer')
     ann.until(lambda: ann.driver.title.startswith('Draw offered:'), 'the tab says so')
     ann.click('#decline').until(lambda: ann.driver.title.startswith('Your turn:'), 'and whose turn it is')
     hall.open(minutes='20')
@@ -178,7 +178,7 @@ def heard_tones(hall):
     ann.until(lambda: tones() == [320, 210], 'and a capture')
     hall.play(['d8d5', 'h2h3', 'd5e5'], 3)
     ann.until(lambda: tones() == [210, 320, 320, 640], 'a check')
-    bob.click('#offer')
+    bob.asked('#offer')
     ann.until(lambda: tones() == [440, 550], 'an offer')
     ann.click('#sound').has('#sound[aria-pressed=false]', 'off by one click')
     ann.run('tones.length = 0')
@@ -377,11 +377,20 @@ ROOM = '''const [list, row] = ['#moves', '#moves li'].map((css) => document.quer
   return list.height / row.height;'''
 
 
+# Squares and what is pressed, whose middles are in sight and belong to something else.
+COVERED = '''const press = '#board [data-square], .game-view button, .game-view input, .top a, .top summary, .top button';
+  return [...document.querySelectorAll(press)].filter((e) => {
+    const { x, y, width, height } = e.getBoundingClientRect();
+    const there = width && e.checkVisibility({ contentVisibilityAuto: true }) && document.elementFromPoint(x + width / 2, y + height / 2);
+    return there && !e.contains(there) && !there.contains(e) && !there.closest('#board');
+  }).map((e) => e.id || e.dataset.square || e.textContent)'''
+
+
 def room_for_all(hall):
     """Screens of seven sizes: nothing lies over anything, the list of moves has room, the board is in sight."""
     number, ann, bob, sue = hall.begin(minutes='90', increment='30', second=('40', '30'))
     hall.play(['e2e4', 'e7e5', 'g1f3', 'b8c6', 'f1b5', 'a7a6', 'b5c6', 'd7c6', 'e1g1', 'f7f6'])
-    bob.click('#offer')
+    bob.asked('#offer')
     ann.finds('#offered', 'an offer')
     for person in (ann, bob, sue):
         for what, _, height, phone in on_screens(person, person.name):
@@ -489,9 +498,10 @@ def read_by_all(hall):
     well(ann, 'a move ahead')
     ann.tap('a5').until(lambda: not planned(ann), 'taken back')
     other = by_lines(hall, 'eve', 'pair ann cid 1200 0')[0].split(' ')[2]
-    well(ann, 'another game of one’s own', '#invited')
+    ann.reads('#telling-words', 'Your game %s against' % other)
+    well(ann, 'another game of one’s own', '#telling.urgent')
     by_lines(hall, 'eve', 'as cid resign ' + other)
-    bob.click('#offer')
+    bob.asked('#offer')
     well(ann, 'an offer', '#offered')
     hall.play(['b8c6'], 3)
     for button, part in (('#resign', '#resign-dialog'), ('#claim', '#claim-dialog'), ('#help', '#help-dialog'),
@@ -641,20 +651,22 @@ def the_board_stays(hall):
     carl.ask('pair cid ann 1200 0')
     ann.reads('#challenges', 'offers you a game')
     ann.is_so([person.run(place) for person in (ann, bob)] == stood, 'each board is where it was')
-    well_on_screens(ann, 'news over a game', '.news .banner')
-    ann.screen(360, 740, 1, True)
-    covered = '''return [...document.querySelectorAll('.top nav a, .top summary, .tools > button')].filter((e) => {
-        const { x, y, width, height } = e.getBoundingClientRect();
-        return width && !e.contains(document.elementFromPoint(x + width / 2, y + height / 2)); }).map((e) => e.id)'''
-    ann.until(lambda: ann.run(covered) == [], 'on a phone it leaves the head free')
-    ann.screen(1280, 800)
+    well_on_screens(ann, 'news over a game', '#telling')
+    for width, height in ((1280, 800), (1024, 768), (900, 700), (768, 1024), (360, 740), (640, 360)):
+        ann.screen(width, height, 1, width < 720 or height > width)
+        time.sleep(0.3)
+        ann.is_so(ann.run(COVERED) == [], '%d x %d: it covers nothing: %s' % (width, height, ann.run(COVERED)))
+        line = ann.box('#telling')
+        ann.is_so(line['width'] > 100 and line['height'] < 40, '%d x %d: one line: %s' % (width, height, line))
+    ann.screen(1280, 800).click('#telling-opens')
+    well_on_screens(ann, 'the news, opened', '.news .banner')
     here = ann.driver.current_url
     ann.click('#challenges .strong').reads('#challenges', 'Another game of yours goes on')
     ann.is_so(ann.driver.current_url == here, 'nothing has begun')
     ann.click('#challenges .strong').until(lambda: ann.driver.current_url != here, 'the other game begins')
     ann.reads('#invited', 'Your game %s against' % number, 'goes on')
     second = ann.driver.current_url.rsplit('/', 1)[1]
-    ann.click('#invited a').until(lambda: ann.driver.current_url == here, 'the way to it')
+    ann.click('#telling-opens', '#invited a').until(lambda: ann.driver.current_url == here, 'the way to it')
     ann.reads('#invited', 'Your game %s against' % second, 'goes on')
     by_lines(hall, 'ann', 'resign ' + second)
     ann.loses('#invited', 'that is told until it has ended')

@@ -161,9 +161,9 @@ def comes(sue, shown, path=''):
     return sue
 
 
-def is_quiet(sue):
-    """The console says nothing, but that a file is not there."""
-    complaints = [one for one in sue.complaints() if '404' not in one]
+def is_quiet(sue, *but):
+    """The console says nothing, but that a file is not there, or that it was answered so."""
+    complaints = [one for one in sue.complaints() if not any(status in one for status in ('404', *but))]
     sue.is_so(complaints == [], 'the console is quiet: %s' % complaints)
 
 
@@ -360,6 +360,7 @@ def more_than_are_served(sue, shown):
     shown.later = 0
     shown.has(7, 4)
     sue.loses('#lost', 'it is back', 15).moved(SANS[:4], 'and the game goes on')
+    is_quiet(sue, '503')
 
 
 @watching
