@@ -17,8 +17,6 @@ mod cuts;
 #[cfg(test)]
 mod dates;
 #[cfg(test)]
-mod exports;
-#[cfg(test)]
 mod headings;
 #[cfg(test)]
 mod moves;
@@ -34,11 +32,5 @@ mod room;
 mod rounds;
 #[cfg(test)]
 mod spectators;
-#[cfg(test)]
-mod standings;
-#[cfg(test)]
-mod sums;
-#[cfg(test)]
-mod told;
 #[cfg(test)]
 mod words;
