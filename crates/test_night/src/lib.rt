@@ -17,6 +17,8 @@ mod cuts;
 #[cfg(test)]
 mod dates;
 #[cfg(test)]
+mod figures;
+#[cfg(test)]
 mod headings;
 #[cfg(test)]
 mod moves;
