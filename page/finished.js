@@ -3,6 +3,7 @@
 import { bothMoved, dateWords, decisionIn, readKept } from './kept.js';
 import { language, t } from './language.js';
 import { arrange, byId, make, save, setText } from './make.js';
+import { folded } from './plain.js';
 import { resultText, sideText } from './round.js';
 import { decidedWords, resultWords } from './words.js';
 
@@ -80,13 +81,13 @@ export class FinishedView {
 
   /** The games that are looked for, the newest first. */
   wanted() {
-    const { player, day, result } = this.form, text = player.value.trim().toLowerCase();
+    const { player, day, result } = this.form, text = folded(player.value);
     const date = day.value.replaceAll('-', '.'), names = this.number ? this.names() : [];
     return this.games.filter((game) => {
       const { White, Black, Date: played } = game.tags;
       return (!this.number || FinishedView.has(game, names)) && (!date || played === date)
         && (!result.value || countedOf(this.app.round, game) === result.value)
-        && (!text || [White, Black].some((name) => name.toLowerCase().includes(text)));
+        && (!text || [White, Black].some((name) => folded(name).includes(text)));
     });
   }
 
@@ -129,9 +130,9 @@ export class FinishedView {
 
   /** The pages of players whose name is looked for. */
   renderNames(games) {
-    const text = this.form.player.value.trim().toLowerCase(), names = new Set();
+    const text = folded(this.form.player.value), names = new Set();
     for (const { tags } of text ? games : []) {
-      for (const name of [tags.White, tags.Black]) if (name.toLowerCase().includes(text)) names.add(name);
+      for (const name of [tags.White, tags.Black]) if (folded(name).includes(text)) names.add(name);
     }
     byId('finished-names').hidden = !names.size || names.size > MOST_NAMED;
     byId('finished-names').replaceChildren(t`All games and the score of: `, ...[...names].flatMap((name, place) => [

@@ -5,6 +5,7 @@ import { t } from './language.js';
 import { readRefusal } from './lines.js';
 import { arrange, byId, copy, make, setText } from './make.js';
 import { NewPlayer } from './new-player.js';
+import { folded } from './plain.js';
 import { refusalWords } from './words.js';
 
 const MOST_SHOWN = 40;
@@ -151,9 +152,9 @@ export class Links {
 
   /** The players by whose name the list looks. */
   listed() {
-    const text = byId('links-find').value.trim().toLowerCase();
+    const text = folded(byId('links-find').value);
     return [...this.app.players].map(([name, { role, full }]) => ({ name, role, full }))
-      .filter(({ name, full }) => `${name} ${full}`.toLowerCase().includes(text))
+      .filter(({ name, full }) => folded(`${name} ${full}`).includes(text))
       .sort((a, b) => a.full.localeCompare(b.full));
   }
 

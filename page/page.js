@@ -80,12 +80,19 @@ class Page {
     this.changed();
   }
 
+  /** The game that is shown is looked at again, where it stands and from the side that is below. */
+  lookAgain() {
+    const { game } = this;
+    this.study.come(game.number, game.shown(), game.isTurned());
+    this.go(`/again/${game.number}`);
+  }
+
   listen() {
     addEventListener('hashchange', () => this.route());
     byId('try-now').addEventListener('click', () => this.wire.retry());
     byId('help').addEventListener('click', () => byId('help-dialog').showModal());
     byId('to-content').addEventListener('click', () => this.toContent());
-    byId('look-again').addEventListener('click', () => this.go(`/again/${this.game.number}`));
+    byId('look-again').addEventListener('click', () => this.lookAgain());
     byId('projector').addEventListener('click', () => this.go(`/hall/${this.game.number}`));
     byId('big-screen').addEventListener('click', () => wholeScreen());
     addEventListener('keydown', (event) => this.key(event));
@@ -402,9 +409,9 @@ class Page {
     this.desk.playersTold();
   }
 
-  /** The files have the names of who plays: of who sits down later they are looked up then. */
+  /** Who walks in, or sits down in a game of the files, is told of by name: who that is, is looked up then. */
   async learnNames(names) {
-    if (this.who.player || this.asksNames) return;
+    if (this.asksNames) return;
     if (!names.some((name) => name && !this.players.has(name) && !this.nameless.has(name))) return;
     this.asksNames = true;
     await this.askPlayers();
@@ -479,12 +486,11 @@ class Page {
   /** An arbiter has decided a board. */
   async decided(line) {
     const told = readDecided(line), { round } = this;
+    const seats = () => round.boardAt(Number(told.round), Number(told.board));
     round.decides(told);
-    if (!round.seatsAt(told)) await round.look();
-    const seats = round.seatsAt(told), me = this.me();
-    decidedTold(line, { event: round.told ? round.told.event : '',
-      names: seats ? seats.map(({ full }) => full).join(' – ') : '',
-      isOwn: Boolean(me && seats && seats.some(({ name }) => name === me)) });
+    if (!seats()) await round.look();
+    const { white, black, names } = seats() || {}, me = this.me(), { event } = round.told || { event: '' };
+    decidedTold(line, { event, names: names || '', isOwn: Boolean(me) && (white === me || black === me) });
   }
 
   /** One's own board of the newest round to which a player did not come, if there is one. */

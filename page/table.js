@@ -6,6 +6,7 @@ import { readKept } from './kept.js';
 import { t } from './language.js';
 import { readPgn, readRefusal, readRoom, readStanding, readTimes, timesOfOpen } from './lines.js';
 import { arrange, byId, make, setText } from './make.js';
+import { folded } from './plain.js';
 import { resultText } from './round.js';
 import { TimesField } from './times.js';
 import { NO_FEN, refusalWords, timesInFull, timesWords } from './words.js';
@@ -154,8 +155,8 @@ export class TableView {
   }
 
   groups() {
-    const me = this.app.me(), text = byId('find').value.trim().toLowerCase();
-    const has = (name) => name && `${name} ${this.app.nameWords(name)}`.toLowerCase().includes(text);
+    const me = this.app.me(), text = folded(byId('find').value);
+    const has = (name) => name && folded(`${name} ${this.app.nameWords(name)}`).includes(text);
     const groups = { own: [], open: [], running: [], over: [] };
     for (const row of this.rows.values()) {
       const mine = me && (row.white === me || row.black === me), waits = !row.white || !row.black;

@@ -985,6 +985,12 @@ export const WORDS = {
   '+ –: Black did not come': '+ – : les Noirs ne sont pas venus',
   '– +: White did not come': '– + : les Blancs ne sont pas venus',
   '– –: neither came': '– – : personne n’est venu',
+  'as it was played': 'tel que joué',
+  '{0}, not rated': '{0}, non comptée pour l’Elo',
+  '1–0, not rated: not both have moved': '1–0, non comptée pour l’Elo : les deux n’ont pas joué',
+  '½–½, not rated: not both have moved': '½–½, non comptée pour l’Elo : les deux n’ont pas joué',
+  '0–1, not rated: not both have moved': '0–1, non comptée pour l’Elo : les deux n’ont pas joué',
+  'As it was played: what was decided counts no more': 'Tel que joué : ce qui a été décidé ne compte plus',
   'Article': 'Article',
   ['A decision counts in place of what the server says: in results, reports and standings. The game’s own record '
     + 'stays as it is, and the last decision about a board counts. Everybody is told it.']:
@@ -994,6 +1000,18 @@ export const WORDS = {
   'Decide a result': 'Décider un résultat',
   'The game’s number': 'Numéro de la partie',
   'Game {0} goes on: first its result is entered.': 'La partie {0} continue : son résultat est d’abord à inscrire.',
+  'No such board was told of this round.': 'Cette ronde n’a pas d’échiquier de ce numéro.',
+  'This board has a bye.': 'Cet échiquier est exempt.',
+  'No game is known of this board.': 'On ne connaît pas de partie de cet échiquier.',
+  'Decide the result of board {0} of round {1}: {2} – {3}':
+    'Décider le résultat de l’échiquier {0} de la ronde {1} : {2} – {3}',
+  'Board {0} of round {1} is the bye of {2}.': 'L’échiquier {0} de la ronde {1} est l’exemption de {2}.',
+  'Board {0} of round {1} is of {2} and {3}, and not of these two.':
+    'L’échiquier {0} de la ronde {1} est celui de {2} et {3}, et non de ces deux-là.',
+  'Decide about that board all the same?': 'Décider quand même pour cet échiquier ?',
+  'Or the round': 'Ou la ronde',
+  'and the board': 'et l’échiquier',
+  'Of a board that may have no game': 'D’un échiquier qui peut être sans partie',
   'Default time, min': 'Délai d’attente, min',
   '{0} has not come within the default time, {1} min': '{0} : absence pendant tout le délai d’attente, {1} min',
   '{0} has come after the default time, {1} min': '{0} : arrivée après le délai d’attente, {1} min',

@@ -965,6 +965,12 @@ export const WORDS = {
   '+ –: Black did not come': '+ –: czarne nie przyszły',
   '– +: White did not come': '– +: białe nie przyszły',
   '– –: neither came': '– –: nikt nie przyszedł',
+  'as it was played': 'tak, jak rozegrano',
+  '{0}, not rated': '{0}, bez zaliczenia do rankingu',
+  '1–0, not rated: not both have moved': '1–0, bez zaliczenia do rankingu: nie obie strony wykonały ruch',
+  '½–½, not rated: not both have moved': '½–½, bez zaliczenia do rankingu: nie obie strony wykonały ruch',
+  '0–1, not rated: not both have moved': '0–1, bez zaliczenia do rankingu: nie obie strony wykonały ruch',
+  'As it was played: what was decided counts no more': 'Tak, jak rozegrano: wcześniejsza decyzja już się nie liczy',
   'Article': 'Artykuł',
   ['A decision counts in place of what the server says: in results, reports and standings. The game’s own record '
     + 'stays as it is, and the last decision about a board counts. Everybody is told it.']:
@@ -973,6 +979,18 @@ export const WORDS = {
   'Decide a result': 'Rozstrzygnij jakiś wynik',
   'The game’s number': 'Numer partii',
   'Game {0} goes on: first its result is entered.': 'Partia {0} trwa: najpierw zapisuje się jej wynik.',
+  'No such board was told of this round.': 'W tej rundzie nie ma takiej szachownicy.',
+  'This board has a bye.': 'Ta szachownica pauzuje.',
+  'No game is known of this board.': 'Partia tej szachownicy nie jest znana.',
+  'Decide the result of board {0} of round {1}: {2} – {3}':
+    'Rozstrzygnij wynik szachownicy {0} rundy {1}: {2} – {3}',
+  'Board {0} of round {1} is the bye of {2}.': 'Szachownica {0} rundy {1} to pauza: {2}.',
+  'Board {0} of round {1} is of {2} and {3}, and not of these two.':
+    'Przy szachownicy {0} rundy {1} grają {2} i {3}, a nie tych dwoje.',
+  'Decide about that board all the same?': 'Mimo to rozstrzygnąć o tej szachownicy?',
+  'Or the round': 'Albo runda',
+  'and the board': 'i szachownica',
+  'Of a board that may have no game': 'O szachownicy, która może nie mieć partii',
   'Default time, min': 'Czas oczekiwania, min',
   '{0} has not come within the default time, {1} min': '{0}: nieobecność przez cały czas oczekiwania, {1} min',
   '{0} has come after the default time, {1} min': '{0}: przyjście po czasie oczekiwania, {1} min',

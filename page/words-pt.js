@@ -963,6 +963,12 @@ export const WORDS = {
   '+ –: Black did not come': '+ –: as pretas não vieram',
   '– +: White did not come': '– +: as brancas não vieram',
   '– –: neither came': '– –: ninguém veio',
+  'as it was played': 'como foi jogado',
+  '{0}, not rated': '{0}, sem valer para rating',
+  '1–0, not rated: not both have moved': '1–0, sem valer para rating: nem ambos jogaram',
+  '½–½, not rated: not both have moved': '½–½, sem valer para rating: nem ambos jogaram',
+  '0–1, not rated: not both have moved': '0–1, sem valer para rating: nem ambos jogaram',
+  'As it was played: what was decided counts no more': 'Como foi jogado: o que foi decidido já não vale',
   'Article': 'Artigo',
   ['A decision counts in place of what the server says: in results, reports and standings. The game’s own record '
     + 'stays as it is, and the last decision about a board counts. Everybody is told it.']:
@@ -971,6 +977,18 @@ export const WORDS = {
   'Decide a result': 'Decidir um resultado',
   'The game’s number': 'Número da partida',
   'Game {0} goes on: first its result is entered.': 'A partida {0} continua: primeiro se registra o resultado.',
+  'No such board was told of this round.': 'Desta ronda não se conhece tal tabuleiro.',
+  'This board has a bye.': 'Este tabuleiro folga.',
+  'No game is known of this board.': 'Deste tabuleiro não se conhece nenhuma partida.',
+  'Decide the result of board {0} of round {1}: {2} – {3}':
+    'Decidir o resultado do tabuleiro {0} da ronda {1}: {2} – {3}',
+  'Board {0} of round {1} is the bye of {2}.': 'O tabuleiro {0} da ronda {1} é a folga de {2}.',
+  'Board {0} of round {1} is of {2} and {3}, and not of these two.':
+    'O tabuleiro {0} da ronda {1} é de {2} e {3}, e não destes dois.',
+  'Decide about that board all the same?': 'Decidir sobre esse tabuleiro mesmo assim?',
+  'Or the round': 'Ou a ronda',
+  'and the board': 'e o tabuleiro',
+  'Of a board that may have no game': 'De um tabuleiro que pode não ter partida',
   'Default time, min': 'Tolerância, min',
   '{0} has not come within the default time, {1} min': '{0}: não chegaram no tempo de tolerância, {1} min',
   '{0} has come after the default time, {1} min': '{0}: chegaram depois do tempo de tolerância, {1} min',

@@ -759,7 +759,8 @@ def looked_at_again(hall):
     hall.play(FOOLS)
     ann.click('#look-again').shows('#again-moves', '1.f3e52.g4Qh4#', 'its moves')
     ann.board = '#again-board'
-    ann.click('#again-next').until(lambda: ann.men().get('f3') == 'white pawn', 'a move on')
+    ann.until(lambda: ann.men().get('h4') == 'black queen', 'it is opened where it stood')
+    ann.click('#again-first', '#again-next').until(lambda: ann.men().get('f3') == 'white pawn', 'a move on')
     ann.tap('e7').is_so(ann.lit() == {'e6', 'e5'}, 'the pawn’s two squares')
     fen = 'rnbqkbnr/pppppppp/8/8/8/5P2/PPPPP1PP/RNBQKBNR b KQkq - 0 1'
     ann.until(lambda: 'moves ' + fen in ann.sent('moves '), 'who has signed in is told the moves by the lobby')
