@@ -244,9 +244,6 @@ def the_hall_by_files(sue, shown):
     sue.is_so('WIM 2103' in sue.run(ranks % '#hall-boards'), 'with titles and ratings')
     sue.until(lambda: sorted(sue.run('return [...document.querySelectorAll(".card-last")].map((e) => e.textContent)'))
               == ['', 'e5'], 'with their last moves')
-    for number in (10, 11):
-        shown.has(number, 0, 'cid', 'dee')
-    sue.until(lambda: sue.run('return document.querySelectorAll(".card").length') == 4, 'four boards')
     for width, height in ((1280, 800), (1024, 768)):
         sue.screen(width, height)
         sue.until(lambda: sue.box('.hall-tools')['bottom'] <= height, 'what is below the boards is in sight')
