@@ -35,7 +35,8 @@ export function decidedTold(line, { event, names, isOwn }) {
     : t`The arbiter has decided board ${board} of round ${round}: ${words}. Why: ${why}`);
   banner.classList.toggle('others', !isOwn);
   banner.hidden = false;
-  if (isOwn) hideDefault(`${event} ${round} ${board} ${score}`);
+  const key = `${event} ${round} ${board} ${score}`;
+  if (isOwn && byId('defaulted').dataset.key === key) hideDefault(key);
 }
 
 /** One's own board of the newest round to which a player did not come, {event, round, board, names, score}, or null: who
