@@ -73,13 +73,12 @@ def shows_decided(hall, number, ended):
     bob.goes('').shows('[data-key="look-%s"] .state' % number, '½–½', 'so does the table')
     bob.goes('game/' + number).reads('#outcome', '½–½  Draw by the arbiter’s decision', '6.9, Black cannot mate',
                                      'The server says 0–1: %s.' % ended)
-    bob.reads('#defaulted-words', 'Board 2 of round 2, Bob', '+ –. Who does not come in time loses')
-    bob.goes('').click('#hide-defaulted').loses('#defaulted', 'that is hidden')
-    bob.reload().finds('#to-round', 'the page anew').lacks('#defaulted', 'and told no more')
-    bob.goes('game/' + number)
     for side in ('white', 'black'):
         bob.shows('.player.%s .score' % side, '½', 'the score of ' + side)
     well_on_screens(bob, 'a game that was decided')
+    bob.reads('#defaulted-words', 'Board 2 of round 2, Bob', '+ –. Who does not come in time loses')
+    bob.goes('').click('#hide-defaulted').loses('#defaulted', 'that is hidden')
+    bob.reload().finds('#to-round', 'the page anew').lacks('#defaulted', 'and told no more')
 
 
 def a_decision(hall):
