@@ -443,7 +443,7 @@ def a_phone_on_its_side(hall):
     bob.touch('f7').until(lambda: bob.lit() == {'f6', 'f5'}, 'a touch takes a man')
     bob.touch('f6')
     ann.until(lambda: len(ann.moves()) == 10, 'and puts it down')
-    bob.click('#offer')
+    bob.asked('#offer')
     ann.finds('#offered', 'an offer')
     is_on_its_side(ann, 'an offer', '#accept', '#decline', '#resign')
     for width, height, phone in SIDEWAYS[::2]:
