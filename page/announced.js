@@ -2,7 +2,7 @@
 // decides about a board: every page that is open then shows it until it is hidden there.
 
 import { t } from './language.js';
-import { readDecided } from './lines.js';
+import { AS_PLAYED, readDecided } from './lines.js';
 import { byId, setText } from './make.js';
 
 /** What the arbiter announces, as the lobby tells it; empty where that is nothing. */
@@ -17,8 +17,9 @@ export function announcedTold(text) {
 
 /** The line `decided ROUND BOARD RESULT ARTICLE REASON`. */
 export function decidedTold(line) {
-  const { round, board, score, why } = readDecided(line);
-  setText(byId('decided-words'), t`The arbiter has decided board ${board} of round ${round}: ${score}. Why: ${why}`);
+  const { round, board, verdict, result, score, why } = readDecided(line);
+  const words = verdict === AS_PLAYED ? t`as it was played` : verdict === result ? score : t`${score}, not rated`;
+  setText(byId('decided-words'), t`The arbiter has decided board ${board} of round ${round}: ${words}. Why: ${why}`);
   byId('decided').hidden = false;
 }
 

@@ -3,7 +3,7 @@
 import { MINUTE, isAbsent } from './absent.js';
 import { findKept, toldOf } from './kept.js';
 import { t } from './language.js';
-import { readRefusal, readShow } from './lines.js';
+import { AS_PLAYED, readRefusal, readShow } from './lines.js';
 import { byId, setText } from './make.js';
 import { mayMate } from './material.js';
 import { plain } from './plain.js';
@@ -71,7 +71,6 @@ export class Decision {
     const { number } = standing, fields = this.form.elements, at = performance.now();
     const [white, black] = [standing.white, standing.black].map((name) => this.nameOf(name));
     Object.assign(this, { about: number, standing });
-    setText(byId('decide-it'), isAbsent(standing) ? t`Decide it, and end the game` : t`Decide it`);
     for (const name of FILLED) fields[name].value = '';
     this.fill(standing);
     fields.board.value = '';
@@ -132,7 +131,13 @@ export class Decision {
     return `decide ${words.join(' ')}`.slice(0, LONGEST);
   }
 
+  /** Whether a decision ends its game, in which who is to move has not made a move. */
+  ends() {
+    return isAbsent(this.standing) && this.form.elements.result.value !== AS_PLAYED;
+  }
+
   render() {
+    setText(byId('decide-it'), this.ends() ? t`Decide it, and end the game` : t`Decide it`);
     setText(byId('decide-told'), this.line() ? '' : t`Fill in the board, the result and the reason.`);
     setText(byId('decide-board'), this.isKnown ? '' : t`This page does not know which board of which round it is: look at
       the pairings.`);
@@ -141,8 +146,9 @@ export class Decision {
   /** Says it; where it is put down, every page is told, and a game in which who is to move has not made a move ends. */
   async decide() {
     const line = this.line(), { about, standing } = this, loser = LOSERS[this.form.elements.result.value];
+    const ends = this.ends();
     if (!line) return;
-    if (isAbsent(standing) && !await this.isAbsentStill(about)) {
+    if (ends && !await this.isAbsentStill(about)) {
       setText(byId('decide-told'), t`Both have moved meanwhile. Nothing was entered.`);
       return;
     }
@@ -150,7 +156,7 @@ export class Decision {
     if (this.about !== about) return;
     if (answer.startsWith('ok ')) {
       this.close();
-      if (isAbsent(standing)) this.end(standing, loser || standing.side);
+      if (ends) this.end(standing, loser || standing.side);
       return;
     }
     setText(byId('decide-told'), refusal ? refusalWords(refusal)
@@ -170,7 +176,7 @@ export class Decision {
 }
 
 /** Who has lost by a decision, where one alone has. */
-const LOSERS = { '1-0': 'b', '+/-': 'b', '0-1': 'w', '-/+': 'w' };
+const LOSERS = { '1-0': 'b', '+/-': 'b', 'W/L': 'b', '0-1': 'w', '-/+': 'w', 'L/W': 'w' };
 
 /** Who has lost a game that is over; '' where nobody has. */
 function loserOf({ result }) {

@@ -1,6 +1,7 @@
 // A round's pairings, the standings and the crosstable, as the lobby serves them in one file, for everybody.
 
 import { t } from './language.js';
+import { AS_PLAYED } from './lines.js';
 import { byId, make, setText } from './make.js';
 import { SIDES } from './words.js';
 
@@ -82,9 +83,12 @@ export class RoundView {
     }
   }
 
-  /** The lobby tells that an arbiter has decided a board: its file does so a while later. */
+  /** The lobby tells that an arbiter has decided a board: its file does so a while later. What counts as it was played,
+   * that file alone tells. */
   decides({ round, board, result, why }) {
-    this.decisions.set(`${round} ${board}`, { result, why, isTold: false });
+    const place = `${round} ${board}`;
+    if (result === AS_PLAYED) this.decisions.delete(place);
+    else this.decisions.set(place, { result, why, isTold: false });
     if (this.told) this.take(JSON.parse(this.text), this.state);
     this.render();
     this.renderResults();

@@ -957,6 +957,12 @@ export const WORDS = {
   '+ –: Black did not come': '+ –: Schwarz ist nicht gekommen',
   '– +: White did not come': '– +: Weiß ist nicht gekommen',
   '– –: neither came': '– –: keiner ist gekommen',
+  'as it was played': 'wie gespielt',
+  '{0}, not rated': '{0}, nicht gewertet',
+  '1–0, not rated: not both have moved': '1–0, nicht gewertet: nicht beide haben gezogen',
+  '½–½, not rated: not both have moved': '½–½, nicht gewertet: nicht beide haben gezogen',
+  '0–1, not rated: not both have moved': '0–1, nicht gewertet: nicht beide haben gezogen',
+  'As it was played: what was decided counts no more': 'Wie gespielt: was entschieden wurde, zählt nicht mehr',
   'Article': 'Artikel',
   ['A decision counts in place of what the server says: in results, reports and standings. The game’s own record '
     + 'stays as it is, and the last decision about a board counts. Everybody is told it.']:

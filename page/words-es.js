@@ -949,6 +949,12 @@ export const WORDS = {
   '+ –: Black did not come': '+ –: no se presentaron las negras',
   '– +: White did not come': '– +: no se presentaron las blancas',
   '– –: neither came': '– –: no se presentó nadie',
+  'as it was played': 'como se jugó',
+  '{0}, not rated': '{0}, sin valorar para Elo',
+  '1–0, not rated: not both have moved': '1–0, sin valorar: no han movido ambos',
+  '½–½, not rated: not both have moved': '½–½, sin valorar: no han movido ambos',
+  '0–1, not rated: not both have moved': '0–1, sin valorar: no han movido ambos',
+  'As it was played: what was decided counts no more': 'Como se jugó: lo decidido ya no cuenta',
   'Article': 'Artículo',
   ['A decision counts in place of what the server says: in results, reports and standings. The game’s own record '
     + 'stays as it is, and the last decision about a board counts. Everybody is told it.']:

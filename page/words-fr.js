@@ -963,6 +963,12 @@ export const WORDS = {
   '+ –: Black did not come': '+ – : les Noirs ne sont pas venus',
   '– +: White did not come': '– + : les Blancs ne sont pas venus',
   '– –: neither came': '– – : personne n’est venu',
+  'as it was played': 'tel que joué',
+  '{0}, not rated': '{0}, non comptée pour l’Elo',
+  '1–0, not rated: not both have moved': '1–0, non comptée pour l’Elo : les deux n’ont pas joué',
+  '½–½, not rated: not both have moved': '½–½, non comptée pour l’Elo : les deux n’ont pas joué',
+  '0–1, not rated: not both have moved': '0–1, non comptée pour l’Elo : les deux n’ont pas joué',
+  'As it was played: what was decided counts no more': 'Tel que joué : ce qui a été décidé ne compte plus',
   'Article': 'Article',
   ['A decision counts in place of what the server says: in results, reports and standings. The game’s own record '
     + 'stays as it is, and the last decision about a board counts. Everybody is told it.']:

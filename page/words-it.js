@@ -955,6 +955,12 @@ export const WORDS = {
   '+ –: Black did not come': '+ –: il Nero non è venuto',
   '– +: White did not come': '– +: il Bianco non è venuto',
   '– –: neither came': '– –: non è venuto nessuno',
+  'as it was played': 'come è stata giocata',
+  '{0}, not rated': '{0}, non valida per l’Elo',
+  '1–0, not rated: not both have moved': '1–0, non valida per l’Elo: non hanno mosso entrambi',
+  '½–½, not rated: not both have moved': '½–½, non valida per l’Elo: non hanno mosso entrambi',
+  '0–1, not rated: not both have moved': '0–1, non valida per l’Elo: non hanno mosso entrambi',
+  'As it was played: what was decided counts no more': 'Come è stata giocata: ciò che è stato deciso non vale più',
   'Article': 'Articolo',
   ['A decision counts in place of what the server says: in results, reports and standings. The game’s own record '
     + 'stays as it is, and the last decision about a board counts. Everybody is told it.']:

@@ -956,6 +956,12 @@ export const WORDS = {
   '+ –: Black did not come': '+ –: Zwart is niet gekomen',
   '– +: White did not come': '– +: Wit is niet gekomen',
   '– –: neither came': '– –: niemand is gekomen',
+  'as it was played': 'zoals gespeeld',
+  '{0}, not rated': '{0}, telt niet voor rating',
+  '1–0, not rated: not both have moved': '1–0, telt niet voor rating: niet beiden hebben gezet',
+  '½–½, not rated: not both have moved': '½–½, telt niet voor rating: niet beiden hebben gezet',
+  '0–1, not rated: not both have moved': '0–1, telt niet voor rating: niet beiden hebben gezet',
+  'As it was played: what was decided counts no more': 'Zoals gespeeld: wat beslist is, telt niet meer',
   'Article': 'Artikel',
   ['A decision counts in place of what the server says: in results, reports and standings. The game’s own record '
     + 'stays as it is, and the last decision about a board counts. Everybody is told it.']:

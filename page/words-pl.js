@@ -944,6 +944,12 @@ export const WORDS = {
   '+ –: Black did not come': '+ –: czarne nie przyszły',
   '– +: White did not come': '– +: białe nie przyszły',
   '– –: neither came': '– –: nikt nie przyszedł',
+  'as it was played': 'tak, jak rozegrano',
+  '{0}, not rated': '{0}, bez zaliczenia do rankingu',
+  '1–0, not rated: not both have moved': '1–0, bez zaliczenia do rankingu: nie obie strony wykonały ruch',
+  '½–½, not rated: not both have moved': '½–½, bez zaliczenia do rankingu: nie obie strony wykonały ruch',
+  '0–1, not rated: not both have moved': '0–1, bez zaliczenia do rankingu: nie obie strony wykonały ruch',
+  'As it was played: what was decided counts no more': 'Tak, jak rozegrano: wcześniejsza decyzja już się nie liczy',
   'Article': 'Artykuł',
   ['A decision counts in place of what the server says: in results, reports and standings. The game’s own record '
     + 'stays as it is, and the last decision about a board counts. Everybody is told it.']:

@@ -943,6 +943,12 @@ export const WORDS = {
   '+ –: Black did not come': '+ –: as pretas não vieram',
   '– +: White did not come': '– +: as brancas não vieram',
   '– –: neither came': '– –: ninguém veio',
+  'as it was played': 'como foi jogado',
+  '{0}, not rated': '{0}, sem valer para rating',
+  '1–0, not rated: not both have moved': '1–0, sem valer para rating: nem ambos jogaram',
+  '½–½, not rated: not both have moved': '½–½, sem valer para rating: nem ambos jogaram',
+  '0–1, not rated: not both have moved': '0–1, sem valer para rating: nem ambos jogaram',
+  'As it was played: what was decided counts no more': 'Como foi jogado: o que foi decidido já não vale',
   'Article': 'Artigo',
   ['A decision counts in place of what the server says: in results, reports and standings. The game’s own record '
     + 'stays as it is, and the last decision about a board counts. Everybody is told it.']:

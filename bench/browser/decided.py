@@ -14,6 +14,8 @@ from round import round_told, serves
 PAIRINGS = 'board,white,black,times,start\n1,ann,bob,20,\n2,cid,dee,300,\n'
 # Black's knight never mates a king that has a queen alone.
 KNIGHT = '8/8/4k3/8/8/2n5/8/4KQ2 w - - 0 1'
+AS_PLAYED = '''const form = document.querySelector('#decide-form'); form.elements.result.value = 'as-played';
+    form.dispatchEvent(new Event('input'))'''
 # A sum, as a log's last line has one.
 SUM = 'fb7bbecde876abfd2185952b538e06f413603fdea5cff2456fe908fa433cdf16'
 KEPT = '''[Event "Club night"]
@@ -75,8 +77,8 @@ def shows_decided(hall, number, ended):
 
 def a_decision(hall):
     """The desk decides a board: of a game that ended by a flag, with a draw where the winner's men never mate, of one
-    whose player has not come, which waits once the default time is over, and of one that has left the table. Where it
-    is not put down, it says so."""
+    whose player has not come, which waits once the default time is over, and of one that has left the table; and takes a
+    decision back. Where it is not put down, it says so."""
     _, bob, sue = hall.sit()
     lost, drawn = paired(hall, 'ann', 'bob', '20 0'), paired(hall, 'ann', 'bob', '20 0 ' + KNIGHT)
     entered(hall, 'as ann move %s 0 e2e4' % lost, 'as bob move %s 1 e7e5' % lost, 'as ann move %s 0 f1f2' % drawn,
@@ -105,6 +107,11 @@ def a_decision(hall):
             result='1/2-1/2', white='ann', black='bob', article='6.9', arbiter='Eve Arbiter',
             reason='Black cannot mate by any legal moves')
     shows_decided(hall, drawn, 'Black wins on time')
+    sue.click(on_card(drawn, '[data-key^=decide-]')).type('#decide-form [name=reason]', 'it was another board')
+    sue.run(AS_PLAYED)
+    decides(hall, 2, 'The arbiter has decided board 1 of round 2: as it was played. Why: 6.9, it was another board',
+            board=1, result='as-played')
+    sue.shows(on_card(drawn, '.desk-state'), '0–1 Black wins on time', 'the server’s result counts again')
     here = paired(hall, 'ann', 'cid', '300 0')
     sue.click(on_card(here, '[data-key^=decide-]')).reads('#decide-stands', 'White has not made a move')
     sue.is_so(value(sue, 'result') == '+/-', 'White sits there').click('#decide-leave')

@@ -1,7 +1,6 @@
 //! Standings of tournaments that were reckoned by hand, by the articles of FIDE's Handbook, C.07.
 use night_report::{
-    Bye, Meeting, Opponent, Play, Score, all_board_points, all_matches, alternates, are_few,
-    is_matched,
+    Bye, Meeting, Opponent, Play, Score, all_board_points, all_matches, are_few, is_matched,
 };
 use night_standings::{Criterion, Standings, standings_of};
 use std::alloc::Global;
@@ -151,32 +150,6 @@ fn boards_of_no_match(rt: HostRuntime) {
     let boards = [met(1, 2), met(1, 6), met(1, 3), met(2, 5), met(4, 5)];
     for (board, wanted) in boards.iter().zip(&[false, false, true, false, false]) {
         assert!(rt; is_matched(&sides, &boards, *board) == *wanted);
-    }
-}
-
-// Boards of a match by their numbers: whether the colours of two teams alternate.
-const COLOURS: [(&[(u32, u32, u32)], bool); 5] = [
-    (&[(1, 1, 3), (2, 2, 4)], false),
-    (&[(1, 1, 3), (2, 5, 6), (4, 4, 2)], true),
-    (&[(1, 1, 3), (3, 2, 4)], true),
-    (&[(1, 1, 3), (3, 4, 2)], false),
-    (&[(2, 1, 3), (3, 4, 2), (6, 1, 4)], true),
-];
-
-#[test]
-fn colours_alternate_by_the_numbers_of_boards(rt: HostRuntime) {
-    let sides = [1, 1, 2, 2, 3, 3];
-    for (boards, wanted) in COLOURS {
-        let mut round = Vec::new(rt.alloc());
-        for (board, white, black) in boards {
-            let meeting = Meeting {
-                board: *board,
-                ..met(*white, *black)
-            };
-            round.push(meeting).expect(&rt, "memory");
-        }
-        let first = round.first().map_or(0, |meeting| meeting.board);
-        assert!(rt; alternates(&sides, first, 1, 2, round.as_slice()) == wanted);
     }
 }
 

@@ -148,7 +148,7 @@ fn check_line(rt: &impl Abort, alloc: Global, line: &str, wanted: Result<&str, E
 }
 
 // Command lines, and what each asks for, or why it is refused.
-static LINES: [(&str, Result<&str, ErrorKind>); 54] = [
+static LINES: [(&str, Result<&str, ErrorKind>); 58] = [
     (
         "chess-club lobby --players p --server 127.0.0.1:1",
         Ok("lobby p 127.0.0.1:8080 page 0 4 8 32"),
@@ -236,6 +236,14 @@ static LINES: [(&str, Result<&str, ErrorKind>); 54] = [
         Ok("decide d 3 -/-"),
     ),
     (
+        "chess-club decide --pairings p --decisions d --board 3 --result W/L --arbiter E --reason R",
+        Ok("decide d 3 W/L"),
+    ),
+    (
+        "chess-club decide --pairings p --decisions d --board 3 --result as-played --arbiter E --reason R",
+        Ok("decide d 3 as-played"),
+    ),
+    (
         "chess-club decide --pairings p --decisions d --board 3 --result 1 --arbiter E --reason R",
         Err(ErrorKind::InvalidValue),
     ),
@@ -246,6 +254,14 @@ static LINES: [(&str, Result<&str, ErrorKind>); 54] = [
     (
         "chess-club trf --players p --archive a --rounds a,b --particulars q --round-date 2026/11/27",
         Ok("trf p  1 0 q 1"),
+    ),
+    (
+        "chess-club trf --players p --particulars q",
+        Ok("trf p  0 0 q 0"),
+    ),
+    (
+        "chess-club trf --players p --rounds a,b",
+        Err(ErrorKind::InvalidValue),
     ),
     (
         "chess-club standings --players p --archive a --rounds a,b",
