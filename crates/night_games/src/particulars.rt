@@ -61,6 +61,12 @@ fn is_title(text: &str) -> bool
     text.is_empty() || title_place(text) < 8
 }
 
+fn is_sex(text: &str) -> bool
+    ensures { result ≡ spec.is_sex text.now }
+{
+    text.is_empty() || text == "m" || text == "w"
+}
+
 // Whether a byte is as a sign of a form has it: `0` stands for a digit, `A` for a capital letter.
 fn is_as(byte: u8, sign: u8) -> bool
     ensures { result ≡ spec.is_as byte sign }
@@ -133,7 +139,7 @@ pub fn fault_in(columns: &[&str], row: &StringRecord) -> Option<RowFault>
         Some(RowFault::NoName)
     } else if !is_shown(told(columns, row, "full_name")) {
         Some(RowFault::BadFullName)
-    } else if !matches!(told(columns, row, "sex"), "" | "m" | "w") {
+    } else if !is_sex(told(columns, row, "sex")) {
         Some(RowFault::BadSex)
     } else if !is_title(told(columns, row, "title")) {
         Some(RowFault::BadTitle)
