@@ -37,15 +37,6 @@ enum Found {
     Nothing,
 }
 
-impl Found {
-    fn ended(self) -> Option<Ended> {
-        match self {
-            Found::Ended(ended) => Some(ended),
-            _ => None,
-        }
-    }
-}
-
 // The server, where it is asked: a connection, or why there is none any more.
 #[derive(Drop)]
 enum Server {
@@ -261,21 +252,6 @@ impl<'a> Outcomes<'a> {
         told == name || told == full_name(self.players, name)
     }
 
-    // Why nothing came of a game of the archive, of others than the board's players.
-    fn others_in_archive(
-        &self,
-        game: u32,
-        found: Sides<'_>,
-        white: &Name,
-        black: &Name,
-    ) -> Result<String, AllocError> {
-        let wanted = Sides {
-            white: full_name(self.players, white.as_str()),
-            black: full_name(self.players, black.as_str()),
-        };
-        others_text(self.alloc, game, "of the archive", found, wanted)
-    }
-
     // What a game's PGN tells of a board's game, which names its players so.
     fn found_by_tags(
         &self,
@@ -288,7 +264,11 @@ impl<'a> Outcomes<'a> {
         if self.is_named(sides.white, white) && self.is_named(sides.black, black) {
             return Ok(Found::Ended(tags.ended(self.alloc)?));
         }
-        let why = self.others_in_archive(game, sides, white, black)?;
+        let wanted = Sides {
+            white: full_name(self.players, white.as_str()),
+            black: full_name(self.players, black.as_str()),
+        };
+        let why = others_text(self.alloc, game, "of the archive", sides, wanted)?;
         Ok(Found::Others(why))
     }
 
@@ -358,87 +338,138 @@ impl<'a> Outcomes<'a> {
         }
     }
 
-    // What is told of a board's game that is not on the table: what the archive told, if it told anything.
-    fn without_table(&self, game: u32, archived: Found) -> Result<Found, AllocError> {
-        match archived {
-            Found::Nothing => Ok(Found::Unknown(self.not_found(game)?)),
-            archived => Ok(archived),
+    // Reads the archive again, where it is another by now. So who asks behind the server's answer that a game is not on
+    // the table has it: a game is on the archive's disk before it leaves the table.
+    fn renew<R: Files + AllocGlobal + Eprint>(&mut self, rt: &R) -> Result<()> {
+        if let Some(archived) = self.archived.read_again(rt)? {
+            self.archived = archived;
         }
+        Ok(())
     }
 
-    // What the table tells of a board's game, and else what the archive told.
-    fn found_behind(
+    // What is told of a board's game that is not on the table: what the archive told, or tells by now.
+    fn without_table<R: Files + AllocGlobal + Eprint>(
         &mut self,
+        rt: &R,
         white: &Name,
         black: &Name,
         game: u32,
         archived: Found,
     ) -> Result<Found> {
+        if !matches!(archived, Found::Nothing) {
+            return Ok(archived);
+        }
+        self.renew(rt)?;
+        match self.archived(white, black, game)? {
+            Found::Nothing => Ok(Found::Unknown(self.not_found(game)?)),
+            archived => Ok(archived),
+        }
+    }
+
+    // What archive and server tell of a board's game: what came of it by the archive, else what the table tells, and
+    // else what the archive does.
+    fn found<R: Files + AllocGlobal + Eprint>(
+        &mut self,
+        rt: &R,
+        white: &Name,
+        black: &Name,
+        game: u32,
+    ) -> Result<Found> {
+        let archived = self.archived(white, black, game)?;
+        if matches!(archived, Found::Ended(_)) {
+            return Ok(archived);
+        }
         match self.on_table(white, black, game)? {
-            Found::Nothing => Ok(self.without_table(game, archived)?),
+            Found::Nothing => self.without_table(rt, white, black, game, archived),
             shown => Ok(shown),
         }
     }
 
-    // What archive and server tell of a board's game.
-    fn found(&mut self, white: &Name, black: &Name, game: u32) -> Result<Found> {
-        match self.archived(white, black, game)? {
-            Found::Ended(ended) => Ok(Found::Ended(ended)),
-            archived => self.found_behind(white, black, game, archived),
-        }
-    }
-
     // What is known of a board's game. Of a bye nothing is.
-    fn found_at(&mut self, pairing: &Pairing, game: Option<u32>) -> Result<Found> {
+    fn found_at<R: Files + AllocGlobal + Eprint>(
+        &mut self,
+        rt: &R,
+        pairing: &Pairing,
+        game: Option<u32>,
+    ) -> Result<Found> {
         match (&pairing.against, game) {
             (Against::Bye(_), _) => Ok(Found::Nothing),
-            (Against::Game(paired), Some(game)) => self.found(&pairing.white, &paired.black, game),
+            (Against::Game(paired), Some(game)) => {
+                self.found(rt, &pairing.white, &paired.black, game)
+            }
             (Against::Game(_), None) => {
                 Ok(Found::Unknown(String::from_str(self.alloc, "no game was opened for it")?))
             }
         }
     }
 
-    // The PGN of a game: of the archive, and else of the table.
-    fn pgn(&mut self, game: u32) -> Result<Option<String>> {
+    // The PGN of a game: of the archive, and else of the table; of one that has left that meanwhile, of the archive.
+    fn pgn<R: Files + AllocGlobal + Eprint>(
+        &mut self,
+        rt: &R,
+        game: u32,
+    ) -> Result<Option<String>> {
         if let Some(pgn) = self.archived.pgn(game)? {
             return Ok(Some(pgn));
         }
         let line = format!(in self.alloc; "pgn {game}")?;
-        match self.ask(line.as_str())? {
-            Some(answer) => Ok(Some(answer.behind)),
+        let Some(answer) = self.ask(line.as_str())? else {
+            return Ok(None);
+        };
+        if let Some(Refusal::NoGame) = refusal_of(answer.first.as_str()) {
+            self.renew(rt)?;
+            return self.archived.pgn(game);
+        }
+        Ok(Some(answer.behind))
+    }
+
+    // What the Laws ask of what came of a game, and what was found out. Nothing is looked for where an arbiter decided:
+    // that counts, whoever could mate.
+    fn law_asked<R: Files + AllocGlobal + Eprint>(
+        &mut self,
+        rt: &R,
+        game: u32,
+        ended: &Ended,
+        is_decided: bool,
+    ) -> Result<Option<Law>> {
+        if is_decided || !is_asked(ended) {
+            return Ok(None);
+        }
+        match self.pgn(rt, game)? {
+            Some(pgn) => Ok(law_of(self.alloc, game, pgn.as_str(), ended)?),
             None => Ok(None),
         }
     }
 
     // What the Laws say of what came of a game, or that it goes on.
-    fn note_of_ended(&mut self, game: u32, ended: &Ended, is_decided: bool) -> Result<String> {
-        let pgn = if is_asked(ended) {
-            self.pgn(game)?
-        } else {
-            None
-        };
-        let law = match pgn {
-            Some(pgn) => law_of(self.alloc, game, pgn.as_str(), ended)?,
-            None => None,
-        };
-        let Some(law) = law else {
+    fn note_of_ended<R: Files + AllocGlobal + Eprint>(
+        &mut self,
+        rt: &R,
+        game: u32,
+        ended: &Ended,
+        is_decided: bool,
+    ) -> Result<String> {
+        let Some(law) = self.law_asked(rt, game, ended, is_decided)? else {
             return Ok(String::from_str(self.alloc, going_on(ended))?);
         };
         let said = said_by_law(self.alloc, &law)?;
-        if !is_decided {
-            self.laws.push(law)?;
-        }
+        self.laws.push(law)?;
         Ok(joined(self.alloc, going_on(ended), said)?)
     }
 
     // Why nothing came of a board's game, that it goes on, or what the Laws say of it.
-    fn note_of(&mut self, game: Option<u32>, found: &Found, is_decided: bool) -> Result<String> {
+    fn note_of<R: Files + AllocGlobal + Eprint>(
+        &mut self,
+        rt: &R,
+        game: Option<u32>,
+        found: &Found,
+        is_decided: bool,
+    ) -> Result<String> {
         match (found, game) {
             (Found::Others(why), _) | (Found::Unknown(why), _) => {
                 Ok(String::from_str(self.alloc, why.as_str())?)
             }
-            (Found::Ended(ended), Some(game)) => self.note_of_ended(game, ended, is_decided),
+            (Found::Ended(ended), Some(game)) => self.note_of_ended(rt, game, ended, is_decided),
             _ => Ok(String::new(self.alloc)),
         }
     }
@@ -505,27 +536,40 @@ impl<'a> Outcomes<'a> {
     }
 
     // What was found of a board, with its note.
-    fn told(&mut self, boards: Boards<'_>, pairing: &Pairing, found: Found) -> Result<Told> {
+    fn told<R: Files + AllocGlobal + Eprint>(
+        &mut self,
+        rt: &R,
+        boards: Boards<'_>,
+        pairing: &Pairing,
+        found: Found,
+    ) -> Result<Told> {
         let board = pairing.board;
         let game = noted_game(boards.notes, board);
         let half = self.half_of(board, game)?;
         self.put_words(boards, board, &found, &half)?;
         let is_decided = decision_about(boards.decisions, board).is_some();
-        let why = self.note_of(game, &found, is_decided)?;
+        let why = self.note_of(rt, game, &found, is_decided)?;
         let note = joined(self.alloc, why.as_str(), half)?;
         self.put_word(boards.file, board, note.as_str())?;
-        Ok(Told {
-            ended: found.ended(),
-            note,
-        })
+        let ended = match found {
+            Found::Ended(ended) => Some(ended),
+            _ => None,
+        };
+        Ok(Told { ended, note })
     }
 
     /// What is known of a board's game. Where nothing came of it, it goes on or was played on as another, where the
-    /// Laws say something of its result or an arbiter decided otherwise, there is a word to be told.
-    pub fn of(&mut self, boards: Boards<'_>, pairing: &Pairing) -> Result<Told> {
+    /// Laws say something of its result or an arbiter decided otherwise, there is a word to be told. The archive is
+    /// read again where the server has not got a game that was not in it yet.
+    pub fn of<R: Files + AllocGlobal + Eprint>(
+        &mut self,
+        rt: &R,
+        boards: Boards<'_>,
+        pairing: &Pairing,
+    ) -> Result<Told> {
         let game = noted_game(boards.notes, pairing.board);
-        let found = self.found_at(pairing, game)?;
-        self.told(boards, pairing, found)
+        let found = self.found_at(rt, pairing, game)?;
+        self.told(rt, boards, pairing, found)
     }
 
     /// Tells what was left out of the archive, and the words of the boards.

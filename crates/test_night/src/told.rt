@@ -67,6 +67,8 @@ fn tells_of_players_and_boards(rt: HostRuntime) {
         game: 8,
         round: 3,
         board: 12,
+        white: Name::try_new("ann").expect(&rt, "a name"),
+        black: Name::try_new("bob").expect(&rt, "a name"),
         decision,
     };
     let (players, boards) = ([ann], [board]);
@@ -89,6 +91,8 @@ fn tells_of_a_game_without_moves(rt: HostRuntime) {
         game: 1,
         round: 1,
         board: 1,
+        white: Name::try_new("a").expect(&rt, "a name"),
+        black: Name::try_new("b").expect(&rt, "a name"),
         decision,
     }];
     let telling = Telling {
