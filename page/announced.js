@@ -1,5 +1,6 @@
-// What an arbiter announces, which every page shows until it is taken away or hidden there; what is decided about a board,
-// which every page that is open then shows until it is hidden there; and the line of the head that has it at one's own board.
+// What an arbiter announces, which every page shows until it is taken away or hidden there; what is decided about a
+// board, which every page that is open then shows until it is hidden; and the line of the head that has it at one's own
+// board.
 
 import { t } from './language.js';
 import { AS_PLAYED, readDecided } from './lines.js';
@@ -23,12 +24,12 @@ export function announcedTold(text) {
   dispatchEvent(new Event('announced'));
 }
 
-/** The line `decided ROUND BOARD RESULT ARTICLE REASON`, by {event, names, isOwn}: who has the board, where that is known,
- * and whether one has it oneself. One's own stays until it is hidden; of another's nothing is shown while one plays. */
+/** The line `decided ROUND BOARD RESULT ARTICLE REASON`, by {event, names, isOwn}: who has the board, where that is
+ * known, and whether one has it oneself. One's own stays until it is hidden; another's is not shown while one plays. */
 export function decidedTold(line, { event, names, isOwn }) {
   const { round, board, verdict, result, score, why } = readDecided(line), banner = byId('decided');
-  const words = verdict === AS_PLAYED ? t`as it was played` : verdict === result ? score : t`${score}, not rated`;
   if (!isOwn && !banner.hidden && !banner.classList.contains('others')) return;
+  const words = verdict === AS_PLAYED ? t`as it was played` : verdict === result ? score : t`${score}, not rated`;
   setText(byId('decided-words'), names
     ? t`The arbiter has decided board ${board} of round ${round}, ${names}: ${words}. Why: ${why}`
     : t`The arbiter has decided board ${board} of round ${round}: ${words}. Why: ${why}`);
@@ -37,7 +38,7 @@ export function decidedTold(line, { event, names, isOwn }) {
   if (isOwn) hideDefault(`${event} ${round} ${board} ${score}`);
 }
 
-/** One's own board of the newest round for which a player did not come, {event, round, board, names, score}, or null: who
+/** One's own board of the newest round to which a player did not come, {event, round, board, names, score}, or null: who
  * comes too late reads why the game is lost. */
 export function defaultTold(found) {
   const { event, round, board, names, score } = found || {}, banner = byId('defaulted');
@@ -46,7 +47,8 @@ export function defaultTold(found) {
     banner.hidden = true;
     return;
   }
-  setText(byId('defaulted-words'), t`Board ${board} of round ${round}, ${names}: ${score}. Who does not come in time loses.`);
+  setText(byId('defaulted-words'), t`Board ${board} of round ${round}, ${names}: ${score}. Who does not come in time
+    loses.`);
   banner.dataset.key = key;
   banner.hidden = false;
 }

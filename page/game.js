@@ -44,7 +44,7 @@ const TAKEN_OFF = t`This game was taken off the table.`;
 const PENALTY = 120000;              // milliseconds that a wrong claim gives to the opponent
 const LOOKS_SLOW = 1000, SAID_SLOW = 4000;        // after so long without an answer
 
-/** A move that was typed, whose castling may have zeros or small letters, and a small letter for a man that is no file's. */
+/** A move that was typed: its castling may have zeros or small letters, and a man's letter be small that is no file's. */
 function withCapitals(text) {
   return text.replace(/^[0o]-[0o](-[0o])?/i, (castling) => castling.toUpperCase().replaceAll('0', 'O'))
     .replace(/^[i-z](?=[a-h1-8x])/, (letter) => letter.toUpperCase());

@@ -114,8 +114,7 @@ export function resultBy(verdict) {
  * reason where one is named. */
 export function readDecided(line) {
   const [, round, board, verdict, article, ...words] = line.split(' '), reason = words.join(' ');
-  const result = resultBy(verdict);
-  const score = result.replaceAll('1/2', '½').replace(/^([+-])\//, '$1 ').replaceAll('-', '–');
+  const result = resultBy(verdict), score = result.replaceAll('1/2', '½').replace(/^([+-])\//, '$1 ').replaceAll('-', '–');
   return { round, board, verdict, result, score, why: article === '-' ? reason : `${article}, ${reason}` };
 }
 

@@ -486,12 +486,11 @@ class Page {
   /** An arbiter has decided a board. */
   async decided(line) {
     const told = readDecided(line), { round } = this;
+    const seats = () => round.boardAt(Number(told.round), Number(told.board));
     round.decides(told);
-    if (!round.seatsAt(told)) await round.look();
-    const seats = round.seatsAt(told), me = this.me();
-    decidedTold(line, { event: round.told ? round.told.event : '',
-      names: seats ? seats.map(({ full }) => full).join(' – ') : '',
-      isOwn: Boolean(me && seats && seats.some(({ name }) => name === me)) });
+    if (!seats()) await round.look();
+    const { white, black, names } = seats() || {}, me = this.me(), { event } = round.told || { event: '' };
+    decidedTold(line, { event, names: names || '', isOwn: Boolean(me) && (white === me || black === me) });
   }
 
   /** One's own board of the newest round to which a player did not come, if there is one. */

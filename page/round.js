@@ -104,32 +104,25 @@ export class RoundFile {
     return null;
   }
 
-  /** A board of a round, {round, board, game, white, black, bye} with the players' names, as it was told last; null where
-   * none was, and where the boards are matches of teams. */
+  /** A board of a round, {round, board, game, white, black, names, bye} with the players' names, and full ones in `names`,
+   * as it was told last; null where none was, and where the boards are matches of teams. */
   boardAt(round, board) {
     const boards = this.told && !isOfTeams(this.told) ? this.told.rounds[round - 1] : null;
     const found = boards && boards.find((one) => one.board === board);
-    const name = (number) => (this.told.players[number - 1] || { name: '' }).name;
-    return found ? { ...found, round, white: name(found.white), black: name(found.black) } : null;
-  }
-
-  /** Who has a board of a round, {round, board}: White and Black by {name, full}, as they were told last; null where that
-   * is not told. */
-  seatsAt({ round, board }) {
-    const boards = this.told && !isOfTeams(this.told) && this.told.rounds[round - 1] || [];
-    const found = boards.find((one) => one.board === Number(board));
-    return found ? [found.white, found.black].map((number) => this.told.players[number - 1]).filter(Boolean) : null;
+    const player = (number) => this.told.players[number - 1] || { name: '', full: '' };
+    if (!found) return null;
+    const [white, black] = [player(found.white), player(found.black)], names = `${white.full} – ${black.full}`;
+    return { ...found, round, white: white.name, black: black.name, names };
   }
 
   /** The board of the newest round that a player has and for which one of the two did not come: {event, round, board,
    * names, score}; null where there is none. */
   defaultOf(name) {
-    const { told } = this, round = this.newest();
-    for (const { board, result, bye } of told && !isOfTeams(told) && told.rounds[round - 1] || []) {
-      const seats = bye ? [] : this.seatsAt({ round, board });
-      if (seats.some((one) => one.name === name) && /^[+-]\//.test(result)) {
-        return { event: told.event, round, board, names: seats.map(({ full }) => full).join(' – '), score: resultText(result) };
-      }
+    const round = this.newest(), boards = round && !isOfTeams(this.told) ? this.told.rounds[round - 1] : [];
+    for (const { board, result } of boards) {
+      const { white, black, names } = this.boardAt(round, board), isOwn = white === name || black === name;
+      const { event } = this.told, score = resultText(result);
+      if (isOwn && /^[+-]\//.test(result)) return { event, round, board, names, score };
     }
     return null;
   }

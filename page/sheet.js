@@ -123,9 +123,10 @@ export function drawActions(game) {
 function drawRematch(game) {
   const { challenges } = game.app, line = game.rematchLine(), seat = game.seat(), { white, black } = game.standing;
   const [own, other] = seat === 'b' ? [black, white] : [white, black], isAsked = challenges.stands(other, line);
-  setText(byId('again'), isAsked ? t`Accept the rematch` : challenges.stands(own, line) ? t`Rematch offered` : t`Rematch`);
+  const isOffered = challenges.stands(own, line);
+  setText(byId('again'), isAsked ? t`Accept the rematch` : isOffered ? t`Rematch offered` : t`Rematch`);
   byId('again').classList.toggle('strong', isAsked);
-  return challenges.stands(own, line);
+  return isOffered;
 }
 
 /** The move that waits to be agreed to: `knight g1–f3`. */

@@ -115,14 +115,14 @@ def a_decision(hall):
     sue.click('#arbiter-dialog [value=no]').is_so(sue.sent('decide ') == [], 'nothing is decided about other players')
     sue.type('#decide-form [name=board]', '7').click('#decide-it')
     sue.reads('#decide-told', 'could not be put down').type('#decide-form [name=board]', '1')
-    decides(hall, 2, 'The arbiter has decided board 1 of round 2, Dee van der Meer – Ann Lee: ½–½. Why: 6.9, Black cannot '
-            'mate', board=1, result='1/2-1/2', white='ann', black='bob', article='6.9', arbiter='Eve Arbiter',
+    decides(hall, 2, 'The arbiter has decided board 1 of round 2, Ann Lee – Bob <b>Stone</b> & Sons: ½–½. Why: 6.9, Black '
+            'cannot mate', board=1, result='1/2-1/2', white='ann', black='bob', article='6.9', arbiter='Eve Arbiter',
             reason='Black cannot mate by any legal moves')
     shows_decided(hall, drawn, 'Black wins on time')
     sue.click(on_card(drawn, '[data-key^=decide-]')).type('#decide-form [name=reason]', 'it was another board')
     sue.run(AS_PLAYED)
-    decides(hall, 2, 'The arbiter has decided board 1 of round 2: as it was played. Why: 6.9, it was another board',
-            board=1, result='as-played')
+    decides(hall, 2, 'The arbiter has decided board 1 of round 2, Ann Lee – Bob <b>Stone</b> & Sons: as it was played. Why: '
+            '6.9, it was another board', board=1, result='as-played')
     sue.shows(on_card(drawn, '.desk-state'), '0–1 Black wins on time', 'the server’s result counts again')
     here = paired(hall, 'ann', 'cid', '300 0')
     sue.click(on_card(here, '[data-key^=decide-]')).reads('#decide-stands', 'White has not made a move')
@@ -170,7 +170,8 @@ def a_decision(hall):
     sue.reads('#decide-title', 'board 2 of round 1: Cid Okonkwo – Dee').reads('#decide-stands', 'No game is known')
     sue.run('''document.querySelector('#decide-form').elements.result.value = '0-1' ''')
     sue.type('#decide-form [name=reason]', 'as both signed it')
-    decides(hall, 1, 'The arbiter has decided board 2 of round 1: 0–1. Why: as both signed it', board=2, result='0-1')
+    decides(hall, 1, 'The arbiter has decided board 2 of round 1, Cid Okonkwo – Dee van der Meer: 0–1. Why: as both signed '
+            'it', board=2, result='0-1')
     sue.type('#decide-find [name=number]', '4000000077').click('#decide-find button')
     sue.reads('#decide-stands', 'The server says 1–0: White wins by resignation.')
     sue.is_so(value(sue, 'result') == '', 'nothing is likely there').click('#decide-leave')

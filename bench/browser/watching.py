@@ -244,6 +244,10 @@ def the_hall_by_files(sue, shown):
     sue.is_so('WIM 2103' in sue.run(ranks % '#hall-boards'), 'with titles and ratings')
     sue.until(lambda: sorted(sue.run('return [...document.querySelectorAll(".card-last")].map((e) => e.textContent)'))
               == ['', 'e5'], 'with their last moves')
+    for width, height in ((1280, 800), (1024, 768)):
+        sue.screen(width, height)
+        sue.until(lambda: sue.box('.hall-tools')['bottom'] <= height, 'what is below the boards is in sight')
+    sue.screen(1280, 800)
     shown.has(7, 3)
     sue.until(lambda: 'Bc4' in sue.text('#hall-boards'), 'a move in the hall')
     shown.has(7, 3, result='0-1', article='5.1.2')
