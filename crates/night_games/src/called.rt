@@ -1,5 +1,6 @@
 //! Whom a tag of a PGN calls so, and what is told of this player.
 ghost use Rattle.std.specs.Prelude.{◌≡◌, option_map};
+ghost use Rattle.std.specs.List.{list_any};
 ghost use Rattle.std.specs.Option.{option_copied};
 ghost use Rattle.night_games.specs.Called as spec;
 ghost use Rattle.night_games.specs.Particulars.{texts_of};
@@ -8,14 +9,19 @@ use lobby_words::Player;
 use night_report::Particulars;
 use player_name::Name;
 
+// Whether the players' file has a player of this name and this full name.
+fn has_names(players: &[Player], name: &str, full_name: &str) -> bool
+    ensures { result ≡ list_any (spec.has_names name.now full_name.now) players.now }
+{
+    players.iter().any(|player| player.name.as_str() == name
+        && player.full_name.as_str() == full_name)
+}
+
 // Whether a tag of this value calls so the player of this name, of whom the particulars have this full name.
 fn is_called(players: &[Player], name: &str, full_name: &str, value: &str) -> bool
     ensures { result ≡ spec.is_called players.now name.now full_name.now value.now }
 {
-    value == name
-        || value == full_name
-        || players.iter().any(|player| player.name.as_str() == name
-            && player.full_name.as_str() == value)
+    value == name || value == full_name || has_names(players, name, value)
 }
 
 /// The row of the player of a name.
@@ -33,6 +39,13 @@ fn is_untold(known: &[Particulars<'_>], value: &str, player: &Player) -> bool
     !player.is_arbiter
         && (name == value || player.full_name.as_str() == value)
         && row_of(known, name).is_none()
+}
+
+// Whether there is such a player.
+fn is_one_untold(players: &[Player], known: &[Particulars<'_>], value: &str) -> bool
+    ensures { result ≡ list_any (spec.is_untold known.now value.now) players.now }
+{
+    players.iter().any(|player| is_untold(known, value, player))
 }
 
 // What two texts have alike: all, and nothing where they differ.
@@ -66,7 +79,7 @@ fn common<'a>(one: &Particulars<'a>, other: &Particulars<'_>) -> Particulars<'a>
 fn shared<'a>(players: &[Player], known: &[Particulars<'a>], value: &str) -> Option<Particulars<'a>>
     ensures { option_map texts_of result ≡ spec.shared players.now known.now value.now }
 {
-    if players.iter().any(|player| is_untold(known, value, player)) {
+    if is_one_untold(players, known, value) {
         return None;
     }
     let mut told = None;
