@@ -74,6 +74,16 @@ fn common<'a>(one: &Particulars<'a>, other: &Particulars<'_>) -> Particulars<'a>
     }
 }
 
+// What a row tells, and where something was told before, what it tells alike.
+fn with_row<'a>(before: &Option<Particulars<'a>>, row: &Particulars<'a>) -> Particulars<'a>
+    ensures { texts_of result ≡ spec.with_row (option_map texts_of before.now) (texts_of row.now) }
+{
+    match before {
+        Some(before) => common(before, row),
+        None => *row,
+    }
+}
+
 // What is told where nothing says who it is: what the rows of all who are called so have alike, and nothing where
 // nothing is known of one of them.
 fn shared<'a>(players: &[Player], known: &[Particulars<'a>], value: &str) -> Option<Particulars<'a>>
@@ -85,10 +95,7 @@ fn shared<'a>(players: &[Player], known: &[Particulars<'a>], value: &str) -> Opt
     let mut told = None;
     for row in known {
         if is_called(players, row.name, row.full_name, value) {
-            told = Some(match &told {
-                Some(before) => common(before, row),
-                None => *row,
-            });
+            told = Some(with_row(&told, row));
         }
     }
     told
@@ -107,13 +114,14 @@ pub fn told_as<'a>(
     let Some(name) = name else {
         return shared(players, known, value);
     };
-    let row = row_of(known, name.as_str());
-    let full_name = row.map_or("", |row| row.full_name);
-    if !is_called(players, name.as_str(), full_name, value) {
+    let Some(row) = row_of(known, name.as_str()) else {
+        if is_called(players, name.as_str(), "", value) {
+            return None;
+        }
         return shared(players, known, value);
+    };
+    if is_called(players, name.as_str(), row.full_name, value) {
+        return Some(*row);
     }
-    match row {
-        Some(row) => Some(*row),
-        None => None,
-    }
+    shared(players, known, value)
 }
