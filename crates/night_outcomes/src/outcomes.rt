@@ -535,21 +535,17 @@ impl<'a> Outcomes<'a> {
         }
     }
 
-    // What was found of a board, with its note.
-    fn told<R: Files + AllocGlobal + Eprint>(
+    // What was found of a board, with its note: why nothing came of it, that it goes on, or what the Laws say.
+    fn told(
         &mut self,
-        rt: &R,
         boards: Boards<'_>,
-        pairing: &Pairing,
+        board: u32,
         found: Found,
-    ) -> Result<Told> {
-        let board = pairing.board;
-        let game = noted_game(boards.notes, board);
-        let half = self.half_of(board, game)?;
+        why: &str,
+    ) -> Result<Told, AllocError> {
+        let half = self.half_of(board, noted_game(boards.notes, board))?;
         self.put_words(boards, board, &found, &half)?;
-        let is_decided = decision_about(boards.decisions, board).is_some();
-        let why = self.note_of(rt, game, &found, is_decided)?;
-        let note = joined(self.alloc, why.as_str(), half)?;
+        let note = joined(self.alloc, why, half)?;
         self.put_word(boards.file, board, note.as_str())?;
         let ended = match found {
             Found::Ended(ended) => Some(ended),
@@ -567,9 +563,12 @@ impl<'a> Outcomes<'a> {
         boards: Boards<'_>,
         pairing: &Pairing,
     ) -> Result<Told> {
-        let game = noted_game(boards.notes, pairing.board);
+        let board = pairing.board;
+        let game = noted_game(boards.notes, board);
         let found = self.found_at(rt, pairing, game)?;
-        self.told(rt, boards, pairing, found)
+        let is_decided = decision_about(boards.decisions, board).is_some();
+        let why = self.note_of(rt, game, &found, is_decided)?;
+        Ok(self.told(boards, board, found, why.as_str())?)
     }
 
     /// Tells what was left out of the archive, and the words of the boards.
