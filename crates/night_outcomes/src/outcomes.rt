@@ -12,7 +12,7 @@ use night_rounds::{
     Against, Decision, Note, Pairing, decision_about, game_in, last_of, verdict_text,
 };
 use player_name::Name;
-use server_answers::{Ending, Refusal, Seats, Shown, refusal_of, result_text, shown_of};
+use server_answers::{Refusal, Seats, Shown, refusal_of, result_text, shown_of};
 use sockets::ServerAddress;
 use std::alloc::{AllocError, Global};
 use std::net::{Net, TcpStream};
@@ -35,6 +35,15 @@ enum Found {
     Others(String),
     Unknown(String),
     Nothing,
+}
+
+impl Found {
+    fn ended(self) -> Option<Ended> {
+        match self {
+            Found::Ended(ended) => Some(ended),
+            _ => None,
+        }
+    }
 }
 
 // The server, where it is asked: a connection, or why there is none any more.
@@ -154,14 +163,6 @@ fn others_text(
     )
 }
 
-// The article, empty where there is none.
-fn article_of(ending: Option<Ending>) -> &'static str {
-    match ending {
-        Some(ending) => ending.article.as_str(),
-        None => "",
-    }
-}
-
 // Why nothing came of a game of the table; none where it is of the board's players.
 fn others_on_table(
     alloc: Global,
@@ -187,9 +188,13 @@ fn others_on_table(
 
 // What came of a game of the table.
 fn ended_of(alloc: Global, shown: Shown) -> Result<Ended, AllocError> {
+    let article = match shown.ending {
+        Some(ending) => ending.article.as_str(),
+        None => "",
+    };
     Ok(Ended {
         result: String::from_str(alloc, result_text(shown.ending))?,
-        article: String::from_str(alloc, article_of(shown.ending))?,
+        article: String::from_str(alloc, article)?,
         is_played: shown.ply >= 2,
     })
 }
@@ -547,11 +552,10 @@ impl<'a> Outcomes<'a> {
         self.put_words(boards, board, &found, &half)?;
         let note = joined(self.alloc, why, half)?;
         self.put_word(boards.file, board, note.as_str())?;
-        let ended = match found {
-            Found::Ended(ended) => Some(ended),
-            _ => None,
-        };
-        Ok(Told { ended, note })
+        Ok(Told {
+            ended: found.ended(),
+            note,
+        })
     }
 
     /// What is known of a board's game. Where nothing came of it, it goes on or was played on as another, where the
