@@ -89,7 +89,7 @@ module _ {S : Type 0} where
       let passes = takes.attends in
       let players = attended_lines remaining old.site at old.guests.items passes.first takes.parted passes.said.talk
       (players_pass remaining old.site at old.guests.items passes.first
-      (full_asking takes.parted passes.asks) passes.said passes.players) are in
+      (full_asking passes.is_free takes.parted passes.asks) passes.said passes.players) are in
       let attended = attended_lines remaining old.site at passes.first takes.attended passes.said.talk passes.last.talk
       (others_pass remaining old.site at passes.first takes.attended (full_room passes.said.talk) passes.last passes.others) players in
       let looked = lines_by (IsLookedAfter turn.between.talk.desk (is_look_time at old) at) (λ x y one. same_line x y one.waits)

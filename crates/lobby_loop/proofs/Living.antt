@@ -1157,7 +1157,7 @@ module _ {S : Type 0} (remaining contents : S → Option (List ℕ)) (players : 
       }) so_far in
       let passes = t.takes.attends in
       let one = attended_pass at former base out site old.guests.items passes.first t.takes.parted passes.said.talk own two
-      (players_pass remaining site at old.guests.items passes.first (full_asking t.takes.parted passes.asks)
+      (players_pass remaining site at old.guests.items passes.first (full_asking passes.is_free t.takes.parted passes.asks)
       passes.said passes.players) in
       let said = subst (λ (u : Talk). IsTalkAt players is_paused base out
       (Two remaining contents site came players is_paused former base out [] t.takes.attended) u

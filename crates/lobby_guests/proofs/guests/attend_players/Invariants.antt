@@ -7,4 +7,4 @@ use Rattle.lobby_guests.proofs.guests.attend_players.Given as goal
 abbrev pub invariant-loop-guest : goal.invariant-loop-guest
 invariant-loop-guest g l =
     IsTurnedTo (IsPlayersTurn g.S.Read.remaining l.site l.at) l.guest-index l.fn.guests.items l.guest-items
-    (full_asking l.fn.talk l.fn.asks) (room_of l.talk l.asks)
+    (full_asking l.is_free l.fn.talk l.fn.asks) (room_of l.talk l.asks)
