@@ -27,6 +27,7 @@ export class AgainView {
     this.told = new Map();             // FEN -> {check, moves} as the lobby has told them, null where it is no FEN
     this.turned = false;
     this.number = -1;
+    this.coming = null;                // at which of a game's positions it is to be opened: {number, ply, turned}
     this.tags = {};
     this.start = this.at = begin();
     this.listen();
@@ -53,7 +54,13 @@ export class AgainView {
 
   // ---- coming and going
 
+  /** A game is opened next at this ply, and from this side. */
+  come(number, ply, turned) {
+    this.coming = { number, ply, turned };
+  }
+
   open(number) {
+    const { coming } = this;
     this.root.hidden = false;
     if (number !== this.number) {
       this.number = number;
@@ -61,6 +68,8 @@ export class AgainView {
       this.note('');
       this.set(number ? { tags: {}, start: begin() } : this.kept() || { tags: {}, start: begin() });
     }
+    if (coming && coming.number === number) this.turned = coming.turned;
+    else this.coming = null;
     if (number) this.load();
     this.render();
   }
@@ -111,6 +120,8 @@ export class AgainView {
     if (isOfIt && !isOwn) graft(start, kept.start);
     const path = pathOf(this.at);
     this.set({ tags, start }, isOwn ? [] : path);
+    if (this.coming) this.goTo(inMain(start, this.coming.ply));
+    this.coming = null;
     if (isOwn) this.note(t`You play in this game: look at it again once it is over.`);
   }
 
@@ -256,8 +267,9 @@ export class AgainView {
     this.board.show({ fen, last: squaresOf(text), check, moves, turned: this.turned });
   }
 
+  /** Of a game of the club's its players' full names; of another one, those of its PGN. */
   nameOf(name) {
-    return name ? this.app.nameWords(name) : '';
+    return name && this.number ? this.app.nameWords(name) : name || '';
   }
 
   /** What both clocks showed, where the PGN has them. */
@@ -312,6 +324,13 @@ function wrongWords({ move, at, line, isMain }) {
   const { side, full } = at.position, placed = `${full}${side === 'w' ? '.' : '…'} ${move}`;
   return isMain ? t`Line ${line}: ${placed} cannot be played there. What stands before it is on the board.`
     : t`Line ${line}: ${placed} cannot be played there. The rest of this variation is left out.`;
+}
+
+/** The position of the main line behind so many moves, or its last. */
+function inMain(start, ply) {
+  let at = start;
+  for (let count = 0; count < ply && at.next.length; count += 1) [at] = at.next;
+  return at;
 }
 
 /** The moves that lead to a position. */

@@ -13,7 +13,7 @@ import { Links } from './links.js';
 import { arrange, byId, focused, make, save, setText } from './make.js';
 import { Openings } from './openings.js';
 import { Pairing } from './pairing.js';
-import { plain } from './plain.js';
+import { folded, plain } from './plain.js';
 import { Question } from './question.js';
 import { resultText } from './round.js';
 import { stopped } from './stopped.js';
@@ -165,8 +165,8 @@ export class ArbiterView {
     for (const number of this.places.keys()) {
       if (!this.rows().has(number)) this.places.delete(number);
     }
-    const text = byId('arbiter-find').value.trim().toLowerCase();
-    const has = (name) => name && `${name} ${this.app.nameWords(name)}`.toLowerCase().includes(text);
+    const text = folded(byId('arbiter-find').value);
+    const has = (name) => name && folded(`${name} ${this.app.nameWords(name)}`).includes(text);
     return rows.filter((row) => !text || has(row.white) || has(row.black)).sort((a, b) => {
       const one = this.places.get(a.number), other = this.places.get(b.number);
       return one.kind - other.kind || (one.kind === OVER ? other.turn - one.turn : one.turn - other.turn);
@@ -549,7 +549,7 @@ export class ArbiterView {
       return;
     }
     if (kind === 'decide') {
-      this.decision.ask(card.standing);
+      this.decision.ask(card.standing, card.at);
       return;
     }
     if (kind === 'adjourn') {
@@ -653,10 +653,10 @@ export class ArbiterView {
     setText(byId('entries'), this.arePaused ? t`New games: stopped` : t`New games: allowed`);
   }
 
-  /** Stops all clocks, for the reason that is written, or has them run again. */
+  /** Stops all clocks, for the reason that is written, if any, or has them run again. */
   clocks() {
     const field = byId('stop-reason');
-    this.tellAll(stopped ? 'start clocks' : `stop clocks ${plain(field.value.trim())}`, field);
+    this.tellAll(stopped ? 'start clocks' : `stop clocks ${plain(field.value.trim() || t`please wait`)}`, field);
   }
 
   /** Says to the lobby what it tells every page; the field of it is empty then. */
@@ -669,7 +669,6 @@ export class ArbiterView {
 
   renderClocks() {
     byId('stop-reason').hidden = byId('stop-label').hidden = Boolean(stopped);
-    byId('stop-reason').required = !stopped;
     setText(byId('stop-clocks'), stopped ? t`Start the clocks` : t`Stop the clocks`);
   }
 

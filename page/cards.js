@@ -28,7 +28,8 @@ export class Cards {
 
   ask() {
     const rows = this.wanted();
-    this.links.desk.question.ask({ title: t`Make new links for ${rows.length} players, to print?`, yes: t`Make them`,
+    this.links.desk.question.ask({ title: rows.length === 1 ? t`Make a new link for ${rows[0].full}, to print?`
+      : t`Make new links for ${rows.length} players, to print?`, yes: t`Make them`,
       words: t`They are for the players who are listed here, arbiters left out. The links that they have hold no more: a
         page that is open with one asks for the new one. Clocks run on.` }, () => this.make(rows));
   }
@@ -40,7 +41,7 @@ export class Cards {
     for (const { name, full } of rows) {
       const link = await this.links.makeOne(name);
       if (!link) break;
-      cards.push(card(full, link));
+      cards.push(card(name, full, link));
       this.links.note(t`${cards.length} of ${rows.length} links are made.`);
     }
     this.busy = false;
@@ -55,6 +56,12 @@ export class Cards {
     byId('cards-print').focus();
   }
 
+  /** The link that a player had holds no more: it is not printed. */
+  leaveOut(name) {
+    for (const one of [...byId('cards').children].filter(({ dataset }) => dataset.name === name)) one.remove();
+    if (!byId('cards').children.length) this.hide();
+  }
+
   /** The sheet is there no more. */
   hide() {
     const had = byId('cards-shown').contains(document.activeElement);
@@ -65,14 +72,14 @@ export class Cards {
   }
 }
 
-function card(full, link) {
-  return make('div', { class: 'card-of-link' }, picture(link), make('div', {}, make('h2', {}, full),
+function card(name, full, link) {
+  return make('div', { class: 'card-of-link', 'data-name': name }, picture(link), make('div', {}, make('h2', {}, full),
     make('p', {}, t`Who opens this link plays as ${full}: keep it for yourself.`),
     make('p', { class: 'link-text' }, link)));
 }
 
 /** A text's QR code; nothing where the text is too long for one. */
-function picture(text) {
+export function picture(text) {
   const code = qrCode(text);
   if (!code) return '';
   const size = code.length + 2 * EDGE, [svg, path] = ['svg', 'path'].map((tag) => document.createElementNS(SVG, tag));

@@ -8,11 +8,13 @@ import { sound } from './sound.js';
 import { colourWord, refusalWords, timesWords } from './words.js';
 
 const LOOKS = 20000;                 // milliseconds: nobody tells of one that has run out
+const KNOWS_FOR = 5000;              // so long after the players were told they are not asked for anew
 const BEGINS_WITHIN = 1500;          // so long after an offer that was accepted its game may be told
 const QUIET = 10000;                 // so long after a player's offer was said another one of the same is only shown
 
 export class Challenges {
-  /** app: {wire, me(), isArbiter(), nameWords(name), players, reachable(), go(route), ownRunning(), turns}. */
+  /** app: {wire, me(), isArbiter(), nameWords(name), players, askPlayers(), learnNames(names), reachable(), go(route),
+   * ownRunning(), turns}. */
   constructor(app) {
     this.app = app;
     this.items = new Map();            // of each offer that is shown, by its row, the element
@@ -20,6 +22,9 @@ export class Challenges {
     this.saidAt = new Map();           // of each player of whom one was said, when
     this.asked = new Set();            // the rows of those that were to be accepted while another game goes on
     this.isLooking = this.isStale = false;
+    this.filled = '';                  // the opponents who may be chosen
+    this.filledAt = -Infinity;
+    byId('against').addEventListener('focus', () => this.lookForPlayers());
     setInterval(() => this.items.size && this.look(), LOOKS);
   }
 
@@ -44,6 +49,7 @@ export class Challenges {
     if (!me || !app.wire.state.open) return this.show([]);
     const [head, ...rows] = await app.wire.say('offers', true);
     if (!head.startsWith('ok offers ') || app.me() !== me) return null;
+    await app.learnNames(rows.map((row) => this.read(row).other));
     const gone = [...this.items.keys()].filter((row) => this.isOwn(row) && !rows.includes(row));
     if (gone.length) setTimeout(() => gone.forEach((row) => this.ended(row)), BEGINS_WITHIN);
     return this.show(rows);
@@ -67,6 +73,7 @@ export class Challenges {
     }
     for (const row of rows) if (!this.items.has(row)) this.items.set(row, this.item(row));
     arrange(byId('challenges'), rows.map((row) => this.items.get(row)));
+    if (this.app.view === this.app.game) this.app.game.render();
     this.said = new Set(rows.filter((row) => this.said.has(row)));
     for (const row of rows) if (!this.said.has(row) && !this.isOwn(row)) this.tell(row);
   }
@@ -80,6 +87,11 @@ export class Challenges {
     say(words);
     sound('offer');
     this.app.turns.tell(words);
+  }
+
+  /** Whether a player offers this game, `WHITE BLACK TIMES`. */
+  stands(by, line) {
+    return this.items.has(`${by} ${line}`);
   }
 
   isOwn(row) {
@@ -133,6 +145,7 @@ export class Challenges {
   /** Offers a game, or takes one that is offered in the same words, `WHITE BLACK TIMES`; whether it is offered now. */
   async say(line, note) {
     this.parted = '';
+    byId('taken-back').hidden = true;
     const [answer] = await this.app.wire.say(`pair ${line}`), refusal = readRefusal(answer);
     if (answer.startsWith('ok pair ')) this.app.go(`/game/${answer.split(' ')[2]}`);
     if (refusal) note(refusalWords(refusal));
@@ -141,14 +154,24 @@ export class Challenges {
     return answer === 'ok offered';
   }
 
+  /** Nobody tells of a player who has walked in: who looks for an opponent asks. */
+  lookForPlayers() {
+    if (performance.now() - this.filledAt > KNOWS_FOR) this.app.askPlayers();
+  }
+
   /** The opponents who may be chosen: anybody, or one player, by the full name. */
   fillPlayers() {
+    this.filledAt = performance.now();
     const list = byId('against'), chosen = list.value, me = this.app.me();
     const rows = [...this.app.players].filter(([name]) => name !== me)
       .sort(([, a], [, b]) => a.full.localeCompare(b.full));
-    list.replaceChildren(make('option', { value: '' }, t`Anybody`),
-      ...rows.map(([name, { full }]) => make('option', { value: name }, full)));
-    list.value = rows.some(([name]) => name === chosen) ? chosen : '';
+    const filled = JSON.stringify(rows.map(([name, { full }]) => [name, full]));
+    if (filled !== this.filled) {      // (a list that is open is left alone)
+      this.filled = filled;
+      list.replaceChildren(make('option', { value: '' }, t`Anybody`),
+        ...rows.map(([name, { full }]) => make('option', { value: name }, full)));
+      list.value = rows.some(([name]) => name === chosen) ? chosen : '';
+    }
     byId('against-field').hidden = !me || this.app.isArbiter() || rows.length === 0;
   }
 }

@@ -3,7 +3,7 @@
 import { MINUTE, isAbsent } from './absent.js';
 import { findKept, toldOf } from './kept.js';
 import { t } from './language.js';
-import { readRefusal, readShow } from './lines.js';
+import { AS_PLAYED, readRefusal, readShow } from './lines.js';
 import { byId, setText } from './make.js';
 import { mayMate } from './material.js';
 import { plain } from './plain.js';
@@ -16,10 +16,11 @@ const LONGEST = 255;                   // so many bytes a line has that the lobb
 const LOST_BY = ['6.9', '5.1.2'];
 /** What is filled in of a decision. */
 const FILLED = ['result', 'article', 'reason'];
+const NO_NUMBER = -1;                 // in the place of a game's number, of a board without one
 const FORFEIT = { w: '-/+', b: '+/-', wb: '-/-' }; // of who did not come
 
 export class Decision {
-  /** desk: {app, openings, absences}. */
+  /** desk: {app, question, openings, absences}. */
   constructor(desk) {
     this.desk = desk;
     this.app = desk.app;
@@ -38,6 +39,11 @@ export class Decision {
     byId('decide-find').addEventListener('submit', (event) => {
       event.preventDefault();
       this.lookUp(Number(event.target.elements.number.value));
+    });
+    byId('decide-board-find').addEventListener('submit', (event) => {
+      event.preventDefault();
+      const { round, board } = event.target.elements;
+      this.lookUpBoard(Number(round.value), Number(board.value));
     });
   }
 
@@ -60,18 +66,28 @@ export class Decision {
     else byId('decide-a-result').open = true;
   }
 
+  /** Asks about a board by its round, also where it has no game on the server, as one that was played elsewhere. */
+  async lookUpBoard(round, board) {
+    await this.app.round.look();
+    const found = this.app.round.boardAt(round, board);
+    setText(byId('decide-found'), !found ? t`No such board was told of this round.`
+      : found.bye ? t`This board has a bye.` : '');
+    if (!found || found.bye) byId('decide-a-result').open = true;
+    else if (found.game) await this.lookUp(found.game);
+    else this.askBoard(found);
+  }
+
   /** How a game stands that has left the table; null where there is none. */
   async kept(number) {
     const kept = await findKept(number), told = kept && toldOf(kept, (full) => this.app.nameOf(full));
     return told && told.standing;
   }
 
-  /** Asks what the board of a game shall have that stands so; what is likely is filled in. */
-  ask(standing) {
-    const { number } = standing, fields = this.form.elements, at = performance.now();
+  /** Asks what the board of a game shall have that stood so at the moment `at`; what is likely is filled in. */
+  ask(standing, at = performance.now()) {
+    const { number } = standing, fields = this.form.elements;
     const [white, black] = [standing.white, standing.black].map((name) => this.nameOf(name));
     Object.assign(this, { about: number, standing });
-    setText(byId('decide-it'), isAbsent(standing) ? t`Decide it, and end the game` : t`Decide it`);
     for (const name of FILLED) fields[name].value = '';
     this.fill(standing);
     fields.board.value = '';
@@ -89,8 +105,34 @@ export class Decision {
     this.dialog.showModal();
   }
 
+  /** Asks what a board shall have that has no game. */
+  askBoard({ round, board, white, black }) {
+    const fields = this.form.elements;
+    Object.assign(this, { about: NO_NUMBER, standing: { number: NO_NUMBER, white, black, ply: AGREED }, isKnown: true });
+    for (const name of FILLED) fields[name].value = '';
+    Object.assign(fields.round, { value: String(round) });
+    Object.assign(fields.board, { value: String(board) });
+    setText(byId('decide-title'),
+      t`Decide the result of board ${board} of round ${round}: ${this.nameOf(white)} – ${this.nameOf(black)}`);
+    setText(byId('decide-stands'), t`No game is known of this board.`);
+    setText(byId('decide-law'), '');
+    this.render();
+    this.dialog.showModal();
+  }
+
   nameOf(name) {
     return this.app.nameWords(name);
+  }
+
+  /** What is told where the board that is filled in is known to be of other players than those that were asked about. */
+  otherWords() {
+    const { round, board } = this.form.elements, { white, black } = this.standing || {};
+    const place = { round: Number(round.value), board: Number(board.value) };
+    const found = this.app.round.boardAt(place.round, place.board);
+    if (!found || !white || found.white === white && found.black === black) return '';
+    const names = { white: this.nameOf(found.white), black: this.nameOf(found.black) };
+    return found.bye ? t`Board ${place.board} of round ${place.round} is the bye of ${names.white}.`
+      : t`Board ${place.board} of round ${place.round} is of ${names.white} and ${names.black}, and not of these two.`;
   }
 
   /** Fills in what is likely, where nothing stands there. */
@@ -132,17 +174,30 @@ export class Decision {
     return `decide ${words.join(' ')}`.slice(0, LONGEST);
   }
 
+  /** Whether a decision ends its game, in which who is to move has not made a move. */
+  ends() {
+    return isAbsent(this.standing) && this.form.elements.result.value !== AS_PLAYED;
+  }
+
   render() {
+    setText(byId('decide-it'), this.ends() ? t`Decide it, and end the game` : t`Decide it`);
     setText(byId('decide-told'), this.line() ? '' : t`Fill in the board, the result and the reason.`);
-    setText(byId('decide-board'), this.isKnown ? '' : t`This page does not know which board of which round it is: look at
-      the pairings.`);
+    setText(byId('decide-board'), this.otherWords() || (this.isKnown ? '' : t`This page does not know which board of which
+      round it is: look at the pairings.`));
   }
 
   /** Says it; where it is put down, every page is told, and a game in which who is to move has not made a move ends. */
-  async decide() {
+  async decide(isAgreed = false) {
+    const others = this.otherWords();
+    if (others && !isAgreed) {
+      this.desk.question.ask({ title: t`Decide about that board all the same?`, words: others, yes: t`Decide it` },
+        () => this.decide(true));
+      return;
+    }
     const line = this.line(), { about, standing } = this, loser = LOSERS[this.form.elements.result.value];
+    const ends = this.ends();
     if (!line) return;
-    if (isAbsent(standing) && !await this.isAbsentStill(about)) {
+    if (ends && !await this.isAbsentStill(about)) {
       setText(byId('decide-told'), t`Both have moved meanwhile. Nothing was entered.`);
       return;
     }
@@ -150,7 +205,7 @@ export class Decision {
     if (this.about !== about) return;
     if (answer.startsWith('ok ')) {
       this.close();
-      if (isAbsent(standing)) this.end(standing, loser || standing.side);
+      if (ends) this.end(standing, loser || standing.side);
       return;
     }
     setText(byId('decide-told'), refusal ? refusalWords(refusal)
@@ -170,7 +225,7 @@ export class Decision {
 }
 
 /** Who has lost by a decision, where one alone has. */
-const LOSERS = { '1-0': 'b', '+/-': 'b', '0-1': 'w', '-/+': 'w' };
+const LOSERS = { '1-0': 'b', '+/-': 'b', 'W/L': 'b', '0-1': 'w', '-/+': 'w', 'L/W': 'w' };
 
 /** Who has lost a game that is over; '' where nobody has. */
 function loserOf({ result }) {

@@ -3,6 +3,7 @@
 import { bothMoved, dateWords, decisionIn, readKept } from './kept.js';
 import { language, t } from './language.js';
 import { arrange, byId, make, save, setText } from './make.js';
+import { folded } from './plain.js';
 import { resultText, sideText } from './round.js';
 import { decidedWords, resultWords } from './words.js';
 
@@ -80,20 +81,14 @@ export class FinishedView {
 
   /** The games that are looked for, the newest first. */
   wanted() {
-    const { player, day, result } = this.form, text = player.value.trim().toLowerCase();
+    const { player, day, result } = this.form, text = folded(player.value);
     const date = day.value.replaceAll('-', '.'), names = this.number ? this.names() : [];
     return this.games.filter((game) => {
       const { White, Black, Date: played } = game.tags;
       return (!this.number || FinishedView.has(game, names)) && (!date || played === date)
-        && (!result.value || this.counted(game) === result.value)
-        && (!text || [White, Black].some((name) => name.toLowerCase().includes(text)));
+        && (!result.value || countedOf(this.app.round, game) === result.value)
+        && (!text || [White, Black].some((name) => folded(name).includes(text)));
     });
-  }
-
-  /** What came of a game: what the server says, unless an arbiter has decided it. */
-  counted(game) {
-    const { number, tags: { Result: result } } = game;
-    return (this.app.round.decided(number, result) || decisionIn(game) || { result }).result;
   }
 
   found() {
@@ -135,9 +130,9 @@ export class FinishedView {
 
   /** The pages of players whose name is looked for. */
   renderNames(games) {
-    const text = this.form.player.value.trim().toLowerCase(), names = new Set();
+    const text = folded(this.form.player.value), names = new Set();
     for (const { tags } of text ? games : []) {
-      for (const name of [tags.White, tags.Black]) if (name.toLowerCase().includes(text)) names.add(name);
+      for (const name of [tags.White, tags.Black]) if (folded(name).includes(text)) names.add(name);
     }
     byId('finished-names').hidden = !names.size || names.size > MOST_NAMED;
     byId('finished-names').replaceChildren(t`All games and the score of: `, ...[...names].flatMap((name, place) => [
@@ -151,7 +146,7 @@ export class FinishedView {
     const games = all.filter(({ number }) => !continued.has(String(number)));
     const count = { won: 0, drawn: 0, lost: 0 }, counted = games.filter(bothMoved);
     for (const game of counted) {
-      const points = sideText(this.counted(game), names.includes(game.tags.White) ? 'w' : 'b');
+      const points = sideText(countedOf(this.app.round, game), names.includes(game.tags.White) ? 'w' : 'b');
       count[points === '½' ? 'drawn' : ['1', '+'].includes(points) ? 'won' : 'lost'] += 1;
     }
     const whole = count.won + Math.floor(count.drawn / 2), half = count.drawn % 2 ? '½' : '';
@@ -169,24 +164,32 @@ export class FinishedView {
   }
 
   itemOf(game) {
-    const result = this.counted(game), known = this.items.get(game);
-    if (!known || known.result !== result) this.items.set(game, { result, item: this.item(game, result) });
+    const result = countedOf(this.app.round, game), known = this.items.get(game);
+    if (!known || known.result !== result) this.items.set(game, { result, item: keptItem(game, result) });
     return this.items.get(game).item;
   }
+}
 
-  item(game, result) {
-    const { number, tags } = game;
-    const seat = (name, side) => make('span', { class: `seat ${side}` },
-      make('span', { class: 'unseen' }, side === 'white' ? t`white: ` : t`black: `),
-      make('span', { class: 'name' }, name));
-    const score = resultText(result);
-    const reason = result === tags.Result ? resultWords(result, tags.Article || '').reason : decidedWords(result);
-    return make('li', { class: 'game-row' }, make('a', { href: `#/game/${number}`, class: 'pairing' },
-      make('span', { class: 'number' }, make('span', { class: 'unseen' }, t`Game `), String(number)),
-      make('span', { class: 'pair' }, seat(tags.White, 'white'), seat(tags.Black, 'black')),
-      make('span', { class: 'times' }, dateWords(tags.Date, language)),
-      make('span', { class: 'state', title: reason }, bothMoved(game) ? score : `(${score})`)));
-  }
+/** What came of a kept game: what the server says, unless an arbiter has decided it, by the round's file or its own. */
+export function countedOf(round, game) {
+  const { number, tags: { Result: result } } = game;
+  return (round.decided(number, result) || decisionIn(game) || { result }).result;
+}
+
+/** A kept game in a list, and the way to it. */
+export function keptItem(game, result) {
+  const { number, tags } = game;
+  const seat = (name, side) => make('span', { class: `seat ${side}` },
+    make('span', { class: 'unseen' }, side === 'white' ? t`white: ` : t`black: `),
+    make('span', { class: 'name' }, name));
+  const score = resultText(result);
+  const why = result === tags.Result ? resultWords(result, tags.Article || '').reason : decidedWords(result);
+  const reason = bothMoved(game) ? why : t`It does not count: not both have moved`;
+  return make('li', { class: 'game-row' }, make('a', { href: `#/game/${number}`, class: 'pairing' },
+    make('span', { class: 'number' }, make('span', { class: 'unseen' }, t`Game `), String(number)),
+    make('span', { class: 'pair' }, seat(tags.White, 'white'), seat(tags.Black, 'black')),
+    make('span', { class: 'times' }, dateWords(tags.Date, language)),
+    make('span', { class: 'state', title: reason }, bothMoved(game) ? score : `(${score})`)));
 }
 
 /** `A. L.` of `Ann Lee`. */

@@ -11,8 +11,9 @@ import { Room } from './room.js';
 import { drawActions, drawFacts, drawMoves, drawOutcome, drawPlayers } from './sheet.js';
 import { asksFirst } from './settings.js';
 import { sound } from './sound.js';
+import { stopped } from './stopped.js';
 import {
-  FLAG_UP, NOT_YOUR_MOVE, NO_GAME, OTHER, OVER, SIDES, WRONG_PLY, clockWords, colourWord, enteredWords, kindWord,
+  AGREED, CLOCKS_STOPPED, FLAG_UP, NOT_YOUR_MOVE, NO_GAME, OTHER, OVER, SIDES, WRONG_PLY, clockWords, colourWord, enteredWords, kindWord,
   movesTyped, refusalWords, resultWords, sanWords, withReason,
 } from './words.js';
 
@@ -42,6 +43,12 @@ const LOOKING = t`Looking among the games that were kept …`;
 const TAKEN_OFF = t`This game was taken off the table.`;
 const PENALTY = 120000;              // milliseconds that a wrong claim gives to the opponent
 const LOOKS_SLOW = 1000, SAID_SLOW = 4000;        // after so long without an answer
+
+/** A move that was typed: its castling may have zeros or small letters, and a man's letter be small that is no file's. */
+function withCapitals(text) {
+  return text.replace(/^[0o]-[0o](-[0o])?/i, (castling) => castling.toUpperCase().replaceAll('0', 'O'))
+    .replace(/^[i-z](?=[a-h1-8x])/, (letter) => letter.toUpperCase());
+}
 
 export class GameView {
   /** app: {wire, me(), nameWords(name), go(route)}. */
@@ -74,7 +81,7 @@ export class GameView {
     on('next-move', () => this.goTo(this.shown() + 1));
     on('last-move', () => this.goTo(this.last()));
     on('turn-board', () => this.turn());
-    on('offer', () => this.act('offer'));
+    on('offer', () => this.askOffer());
     on('accept', () => this.act('accept'));
     on('decline', () => this.act('decline'));
     on('resign', () => this.askResign());
@@ -100,9 +107,11 @@ export class GameView {
     });
     byId('moves').addEventListener('keydown', (event) => this.walkMoves(event));
     addEventListener('resize', () => this.render());
+    addEventListener('clocks', () => stopped || this.noteKind !== 'stopped' || this.note(''));
     const agreed = (id, act) => byId(id).addEventListener('close', (event) => {
       if (event.target.returnValue === 'yes') act();
     });
+    agreed('offer-dialog', () => this.act('offer'));
     agreed('resign-dialog', () => this.act('resign'));
     agreed('claim-dialog', () => this.claim());
     agreed('drop-dialog', () => this.act('drop'));
@@ -132,9 +141,9 @@ export class GameView {
   close() {
     this.number = 0;
     this.root.hidden = true;
-    document.body.classList.remove('plays');
+    document.body.classList.remove('plays', 'at-board');
     Object.values(this.clocks).forEach((clock) => clock.stop());
-    for (const what of ['claim', 'resign', 'drop']) byId(`${what}-dialog`).close();
+    for (const what of ['offer', 'claim', 'resign', 'drop']) byId(`${what}-dialog`).close();
   }
 
   /** The games that this view has to be told of. */
@@ -253,6 +262,7 @@ export class GameView {
     if (ended) this.note('');
     if (!standing || standing.article || standing.ply !== this.claimAt) byId('claim-dialog').close();
     if (!standing || standing.article) byId('resign-dialog').close();
+    if (!standing || standing.article || standing.offer) byId('offer-dialog').close();
     return ended;
   }
 
@@ -316,9 +326,11 @@ export class GameView {
     if (this.standing.offer && !own && (word === 'offer' || word === 'claim') && this.seat()) sound('offer');
     if (answer.startsWith('fallen')) say(t`The flag has fallen.`);
     else if (this.adjournedBy) say(`${t`Adjourned`}. ${this.adjournedWords()}`);
-    else if (arbiter) this.news(t`The arbiter, ${this.app.nameWords(arbiter)}, has entered ${enteredWords(word)} for ${
+    else if (arbiter && this.isUncounted()) {
+      this.news(t`The arbiter, ${this.app.nameWords(arbiter)}, has ended the game. It does not count.`);
+    } else if (arbiter) this.news(t`The arbiter, ${this.app.nameWords(arbiter)}, has entered ${enteredWords(word)} for ${
       own ? t`you` : name}.`);
-    else if (word === 'join') this.news(t`${name} has joined. The game has begun.`);
+    else if (word === 'join') this.news(own ? t`The game has begun.` : t`${name} has joined. The game has begun.`);
     else if (word === 'offer' && !own && this.seat()) say(t`${name} offers a draw.`);
     else if (word === 'offer') this.news(own ? t`You have offered a draw.` : t`${name} offers a draw.`);
     else if (word === 'decline') this.news(own ? t`You have declined the draw.` : t`${name} declines the draw.`);
@@ -389,6 +401,12 @@ export class GameView {
     return decision ? decision.result : this.standing.result;
   }
 
+  /** Whether it ended before both had moved: no score counts it then, unless it is a round's board or was decided. */
+  isUncounted() {
+    const { standing, number, app: { round } } = this, isEarly = standing && standing.article && standing.ply < AGREED;
+    return Boolean(isEarly && !this.decision() && !round.placeOf(number) && !round.decidesUnseen());
+  }
+
   /** Whether one's own game goes on here. */
   isPlaying() {
     return this.running() && this.seat() !== '';
@@ -446,7 +464,7 @@ export class GameView {
   }
 
   typed() {
-    const field = byId('move-text'), text = field.value.trim().replace(/^0-0-0/, 'O-O-O').replace(/^0-0/, 'O-O');
+    const field = byId('move-text'), text = withCapitals(field.value.trim());
     if (!text || !this.standing) return;
     if (!/^[\x21-\x7e]{1,16}$/.test(text)) {
       this.note(t`A move is one word, such as e4, Nf3, exd5, O-O or e2e4.`);
@@ -499,7 +517,7 @@ export class GameView {
     this.answered(answer[0].startsWith('ok '));
     if (refusal) {
       if (asked.word === 'flag' && (refusal.number === FLAG_UP || refusal.number === OVER)) this.note('');
-      else this.note(refusalWords(refusal));
+      else this.note(refusalWords(refusal), refusal.number === CLOCKS_STOPPED ? 'stopped' : 'refused');
       if (refusal.number === WRONG_PLY || asked.word === 'flag') this.refresh();
     } else if (answer[0] === 'lost') {
       this.lost(act);
@@ -565,6 +583,11 @@ export class GameView {
     return Boolean(made && act.move) && (made.text === act.move || bare(made.san) === bare(act.move));
   }
 
+  askOffer() {
+    byId('offer-dialog').returnValue = '';
+    byId('offer-dialog').showModal();
+  }
+
   askResign() {
     byId('resign-dialog').returnValue = '';
     byId('resign-dialog').showModal();
@@ -620,13 +643,22 @@ export class GameView {
   /** A new game of the same times, with the colours changed: offered to the opponent, or taken where he offers it. An
    * arbiter, whose word would pair the two at once, opens it. */
   async rematch() {
-    const times = readTimes(this.tags.TimeControl || ''), { white, black } = this.standing, { app } = this;
-    if (!times) return;
-    const period = times.moves ? `${times.moves}/${times.initial}:${times.second}` : times.initial;
-    const rest = `${period} ${times.increment}${this.tags.FEN ? ` ${this.tags.FEN}` : ''}`;
-    const note = (text) => this.note(text);
+    const rest = this.sameTimes(), note = (text) => this.note(text), { app } = this;
+    if (!rest) return;
     if (app.isArbiter()) app.openGame(`open ${this.seat() === 'w' ? 'black' : 'white'} ${rest}`, note);
-    else if (await app.challenges.say(`${black} ${white} ${rest}`, note)) this.news(t`It is offered.`);
+    else if (await app.challenges.say(this.rematchLine(), note)) this.news(t`It is offered.`);
+  }
+
+  /** The game's times and start, as one is opened by them; '' where they are not told. */
+  sameTimes() {
+    const times = readTimes(this.tags.TimeControl || '');
+    if (!times) return '';
+    const period = times.moves ? `${times.moves}/${times.initial}:${times.second}` : times.initial;
+    return `${period} ${times.increment}${this.tags.FEN ? ` ${this.tags.FEN}` : ''}`;
+  }
+
+  rematchLine() {
+    return `${this.standing.black} ${this.standing.white} ${this.sameTimes()}`;
   }
 
   /** Offers a way to another game: the opponent has opened one. */
@@ -735,6 +767,7 @@ export class GameView {
       : this.app.me() ? refusalWords({ number: NO_GAME })
         : t`Game ${this.number} is not being played. It is shown here as soon as it begins.`);
     document.body.classList.toggle('plays', !this.gone && this.isPlaying());
+    document.body.classList.toggle('at-board', !this.gone && this.started() && this.seat() !== '');
     if (!standing || this.gone) return;
     if (this.plan && this.myTurn()) this.back = null;
     drawPlayers(this);

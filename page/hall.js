@@ -5,7 +5,8 @@ import { Clock } from './clock.js';
 import { t } from './language.js';
 import { isNoGame, placementOf, readLine, readStanding, squaresOf } from './lines.js';
 import { arrange, byId, make, read, setText, write } from './make.js';
-import { colourWord, resultWords, sanShown, withReason } from './words.js';
+import { resultText } from './round.js';
+import { colourWord, sanShown } from './words.js';
 
 const STAYS = 45000;                  // how long a game that is over is told of, in a place that no running game wants
 const MOST_OVER = 3;                  // so many games that have just ended and have no place are named
@@ -21,7 +22,7 @@ export class HallView {
     this.list = byId('hall-boards');
     this.cards = new Map();
     this.order = [];                   // the numbers of the cards, as they stand beside each other
-    this.ended = new Map();            // number -> {words, at}, of games that have just ended
+    this.ended = new Map();            // number -> {names, result, at}, of games that have just ended
     this.first = 0;
     byId('hall-back').addEventListener('click', () => this.page(-1));
     byId('hall-on').addEventListener('click', () => this.page(1));
@@ -81,6 +82,12 @@ export class HallView {
     this.show();
   }
 
+  /** What an arbiter has decided is told anew. */
+  render() {
+    for (const [number, { standing, at }] of this.cards) if (standing) this.draw(number, standing, '', '', at);
+    this.fill();
+  }
+
   /** The running games that stand here stay, also where games before them have begun or ended. */
   fill() {
     if (this.root.hidden) return;
@@ -124,8 +131,11 @@ export class HallView {
     for (const [number, { at }] of this.ended) {
       if (now - at > STAYS) this.ended.delete(number);
     }
-    const words = [...this.ended].filter(([number]) => !this.cards.has(number)).map(([, one]) => one.words);
-    return words.slice(-MOST_OVER).join(' · ');
+    const over = [...this.ended].filter(([number]) => !this.cards.has(number)).slice(-MOST_OVER);
+    return over.map(([number, { names, result }]) => {
+      const decided = this.app.round.decided(number, result);
+      return `${names} ${resultText(decided ? decided.result : result)}`;
+    }).join(' · ');
   }
 
   /** Where a board leads. */
@@ -187,7 +197,7 @@ export class HallView {
     if (this.root.hidden) return;
     if (standing && standing.article && !this.ended.has(number)) {
       const names = [standing.white, standing.black].map((name) => this.app.nameWords(name)).join(' – ');
-      this.ended.set(number, { words: `${names} ${resultWords(standing.result, '').score}`, at: performance.now() });
+      this.ended.set(number, { names, result: standing.result, at: performance.now() });
     }
     if (this.cards.has(number)) {
       if (standing) this.draw(number, standing, sent, answer);
@@ -214,9 +224,8 @@ export class HallView {
       card.clocks[side].set({ left: standing.left[side], at, running: runs && standing.side === side });
       card.names[side].parentElement.classList.toggle('turn', runs && standing.side === side);
     }
-    const words = resultWords(standing.result, standing.article);
     card.root.classList.toggle('done', !runs);
-    setText(card.last, runs ? sanShown(card.san || '') : withReason(words.score, words.reason));
+    setText(card.last, runs ? sanShown(card.san || '') : this.app.round.outcomeWords(standing));
     card.board.root.setAttribute('aria-label', t`Game ${number}, ${placementOf(standing.fen).size} men on the board`);
   }
 }

@@ -2,14 +2,14 @@
 
 import { endOf, readGame } from './study.js';
 import { fenOf, isInCheck } from './rules.js';
-import { readPgn, squaresOf } from './lines.js';
+import { readPgn, resultBy, squaresOf } from './lines.js';
 import { SIDES } from './words.js';
 
 const FILE = 'kept.pgn';
 const BETWEEN = /\n\n(?=\[)/;        // a game ends with an empty line, and the next begins with a tag
 const TAG = /^\[(\w+) "((?:[^"\\]|\\.)*)"\]$/gm;
 const PLAYER = /^(White|Black)$/, NO_DAY = /^Date [?]/;
-const DECIDED = /^\n\{(?:(.+) )?decided ([-+/\d]+)(?: \(([^)]*)\))?(?:: ([^}]*))?\}\s+\S+\s*$/;
+const DECIDED = /^\n\{(?:(.+) )?decided ([-+/\dDLW]+)(?: \(([^)]*)\))?(?:: ([^}]*))?\}\s+\S+\s*$/;
 const CLOCK = /\[%clk (\d+):(\d\d):(\d\d)(?:\.\d+)?\]/;
 
 /** What was read whole, by the tag of the file that it was. */
@@ -68,8 +68,8 @@ export function bothMoved({ text }) {
 export function decisionIn({ text }) {
   const found = DECIDED.exec(text.slice(text.lastIndexOf('\n{')));
   if (!found) return null;
-  const [, who, result, article, reason] = found, why = [article, reason].filter(Boolean).join(', ');
-  return { result, why: [who, why].filter(Boolean).join(': ') };
+  const [, who, verdict, article, reason] = found, why = [article, reason].filter(Boolean).join(', ');
+  return { result: resultBy(verdict), why: [who, why].filter(Boolean).join(': ') };
 }
 
 /** The game of this number, or null. */

@@ -100,12 +100,22 @@ export function announcedIn(lines) {
   return behind(lines, 'announced ');
 }
 
-/** `decided ROUND BOARD RESULT ARTICLE REASON` as {round, board, result, score, why}, with the article before the reason
- * where one is named. */
+/** By which what was decided before counts no more. */
+export const AS_PLAYED = 'as-played';
+/** Decisions that a game is not rated, since not both sides made a move, and what the round's file has of them. */
+const UNRATED = { 'W/L': '1-0', 'L/W': '0-1', 'D/D': '1/2-1/2' };
+
+/** The result of a decision, as the round's file tells it. */
+export function resultBy(verdict) {
+  return UNRATED[verdict] || verdict;
+}
+
+/** `decided ROUND BOARD RESULT ARTICLE REASON` as {round, board, verdict, result, score, why}, with the article before the
+ * reason where one is named. */
 export function readDecided(line) {
-  const [, round, board, result, article, ...words] = line.split(' '), reason = words.join(' ');
-  const score = result.replaceAll('1/2', '½').replace(/(?<=[\d½])-/, '–');
-  return { round, board, result, score, why: article === '-' ? reason : `${article}, ${reason}` };
+  const [, round, board, verdict, article, ...words] = line.split(' '), reason = words.join(' ');
+  const result = resultBy(verdict), score = result.replaceAll('1/2', '½').replace(/^([+-])\//, '$1 ').replaceAll('-', '–');
+  return { round, board, verdict, result, score, why: article === '-' ? reason : `${article}, ${reason}` };
 }
 
 function behind(lines, front) {

@@ -1,10 +1,11 @@
 // The players and their links: an arbiter makes a new one, which is shown once, or closes the one that a player has.
 
-import { Cards } from './cards.js';
+import { Cards, picture } from './cards.js';
 import { t } from './language.js';
 import { readRefusal } from './lines.js';
 import { arrange, byId, copy, make, setText } from './make.js';
 import { NewPlayer } from './new-player.js';
+import { folded } from './plain.js';
 import { refusalWords } from './words.js';
 
 const MOST_SHOWN = 40;
@@ -20,6 +21,7 @@ export class Links {
     this.desk = desk;
     this.app = desk.app;
     this.items = new Map();
+    this.shownOf = '';                 // whose link is shown
     this.closed = new Set();           // whose link this page has closed: the lobby does not tell whose is
     this.cards = new Cards(this);
     this.newPlayer = new NewPlayer(this);
@@ -35,7 +37,9 @@ export class Links {
   /** The link that was made is shown no more. */
   hide() {
     const had = byId('link-shown').contains(document.activeElement);
+    this.shownOf = '';
     byId('link-made').value = '';
+    byId('link-code').replaceChildren();
     byId('link-shown').hidden = true;
     if (had) byId('links-find').focus();
   }
@@ -68,14 +72,16 @@ export class Links {
     this.hide();
     this.note('');
     const link = await this.makeOne(name);
-    if (link) this.show(full, link);
+    if (link) this.show(name, full, link);
   }
 
-  /** Shows a link that was made. */
-  show(full, link) {
+  /** Shows a link that was made, and its QR code for a phone. */
+  show(name, full, link) {
+    this.shownOf = name;
     setText(byId('link-words'), t`The personal link of ${full}, shown this once. Who opens it plays as ${full}.`);
     setText(byId('link-copied'), '');
     byId('link-made').value = link;
+    byId('link-code').replaceChildren(picture(link));
     byId('link-shown').hidden = false;
     byId('link-made').focus();
     byId('link-made').select();
@@ -90,14 +96,21 @@ export class Links {
     }
     if (name === this.app.me()) this.app.who.takeNewToken(found[2]);
     this.closed.delete(name);
+    this.endsLinkOf(name);
     this.render();
     return linkTo(found[2]);
+  }
+
+  /** The link that a player had until now holds no more, and is not shown any longer. */
+  endsLinkOf(name) {
+    if (name === this.shownOf) this.hide();
+    this.cards.leaveOut(name);
   }
 
   /** The link of a player whom the lobby has added just now, by its answer. */
   added(full, answer) {
     this.app.askPlayers();
-    this.show(full, linkTo(answer.split(' ').pop()));
+    this.show(answer.split(' ')[2], full, linkTo(answer.split(' ').pop()));
   }
 
   askClose(name, full) {
@@ -112,6 +125,7 @@ export class Links {
     if (answer[0].startsWith('ok close ')) {
       this.note(t`The link of ${full} is closed.`, 'news');
       this.closed.add(name);
+      this.endsLinkOf(name);
       this.render();
     } else this.refused(answer[0], t`Close it once more: that does no harm.`);
   }
@@ -138,9 +152,9 @@ export class Links {
 
   /** The players by whose name the list looks. */
   listed() {
-    const text = byId('links-find').value.trim().toLowerCase();
+    const text = folded(byId('links-find').value);
     return [...this.app.players].map(([name, { role, full }]) => ({ name, role, full }))
-      .filter(({ name, full }) => `${name} ${full}`.toLowerCase().includes(text))
+      .filter(({ name, full }) => folded(`${name} ${full}`).includes(text))
       .sort((a, b) => a.full.localeCompare(b.full));
   }
 

@@ -28,7 +28,7 @@ export class Openings {
       this.take(form.elements.csv.value);
     });
     file.addEventListener('change', async () => {
-      if (file.files[0]) form.elements.csv.value = await file.files[0].text();
+      if (file.files[0]) this.take(form.elements.csv.value = await file.files[0].text());
       file.value = '';
     });
     byId('boards-open').addEventListener('click', () => this.ask());

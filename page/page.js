@@ -1,7 +1,7 @@
 // The page: which view is open, and the connection that all of it shares.
 
 import { AgainView } from './again.js';
-import { announcedTold, decidedTold, listenToAnnounced } from './announced.js';
+import { announcedTold, decidedTold, defaultTold, listenToAnnounced } from './announced.js';
 import { ArbiterView } from './arbiter.js';
 import { Broadcast } from './broadcast.js';
 import { Challenges } from './challenges.js';
@@ -80,12 +80,19 @@ class Page {
     this.changed();
   }
 
+  /** The game that is shown is looked at again, where it stands and from the side that is below. */
+  lookAgain() {
+    const { game } = this;
+    this.study.come(game.number, game.shown(), game.isTurned());
+    this.go(`/again/${game.number}`);
+  }
+
   listen() {
     addEventListener('hashchange', () => this.route());
     byId('try-now').addEventListener('click', () => this.wire.retry());
     byId('help').addEventListener('click', () => byId('help-dialog').showModal());
     byId('to-content').addEventListener('click', () => this.toContent());
-    byId('look-again').addEventListener('click', () => this.go(`/again/${this.game.number}`));
+    byId('look-again').addEventListener('click', () => this.lookAgain());
     byId('projector').addEventListener('click', () => this.go(`/hall/${this.game.number}`));
     byId('big-screen').addEventListener('click', () => wholeScreen());
     addEventListener('keydown', (event) => this.key(event));
@@ -293,9 +300,11 @@ class Page {
     return true;
   }
 
-  /** Who is in sight, and plays no game here, asks for the table anew. */
+  /** Who is in sight asks what an arbiter has decided, and who plays no game here for the table anew. */
   async askAnew() {
-    if (!document.hidden && this.me() && !this.isPlaying()) await this.askTable();
+    if (document.hidden) return;
+    this.round.refresh();
+    if (this.me() && !this.isPlaying()) await this.askTable();
   }
 
   /** The table anew, unless its answer is still to come. */
@@ -384,6 +393,7 @@ class Page {
     await this.who.login();
     if (wire !== this.wire) return;      // (the link does not hold)
     this.challenges.look();              // (only now the lobby knows whose connection it is)
+    this.tellDefault();
     if (server !== 'here') return;
     await this.askPlayers();
     await this.atTable();
@@ -399,9 +409,9 @@ class Page {
     this.desk.playersTold();
   }
 
-  /** The files have the names of who plays: of who sits down later they are looked up then. */
+  /** Who walks in, or sits down in a game of the files, is told of by name: who that is, is looked up then. */
   async learnNames(names) {
-    if (this.who.player || this.asksNames) return;
+    if (this.asksNames) return;
     if (!names.some((name) => name && !this.players.has(name) && !this.nameless.has(name))) return;
     this.asksNames = true;
     await this.askPlayers();
@@ -474,9 +484,18 @@ class Page {
   }
 
   /** An arbiter has decided a board. */
-  decided(line) {
-    decidedTold(line);
-    this.round.decides(readDecided(line));
+  async decided(line) {
+    const told = readDecided(line), { round } = this;
+    const seats = () => round.boardAt(Number(told.round), Number(told.board));
+    round.decides(told);
+    if (!seats()) await round.look();
+    const { white, black, names } = seats() || {}, me = this.me(), { event } = round.told || { event: '' };
+    decidedTold(line, { event, names: names || '', isOwn: Boolean(me) && (white === me || black === me) });
+  }
+
+  /** One's own board of the newest round to which a player did not come, if there is one. */
+  tellDefault() {
+    defaultTold(this.me() ? this.round.defaultOf(this.me()) : null);
   }
 
   /** What stands in the lobby's place may tell why, as that the disk is full. */

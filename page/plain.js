@@ -7,8 +7,17 @@ const PLAIN = {
   '»': '"', '\u2026': '...',
 };
 
+/** A text in letters without marks. */
+function unmarked(text) {
+  return text.replace(/[^ -~]/g, (sign) => PLAIN[sign] || sign).normalize('NFD').replace(/[\u0300-\u036f]/g, '');
+}
+
 /** A text without what is beyond ASCII. */
 export function plain(text) {
-  return text.replace(/[^ -~]/g, (sign) => PLAIN[sign] || sign).normalize('NFD').replace(/[\u0300-\u036f]/g, '')
-    .replace(/[^ -~]/g, '?');
+  return unmarked(text).replace(/[^ -~]/g, '?');
+}
+
+/** A text as it is looked for: whoever types a name may leave out its marks, and have all letters small. */
+export function folded(text) {
+  return unmarked(text).toLowerCase().trim();
 }

@@ -6,10 +6,12 @@ import { HallView } from './hall.js';
 import { t } from './language.js';
 import { readAct, readLine, readRows, readStanding, sideOf } from './lines.js';
 import { byId, make, setText } from './make.js';
+import { RoundFile } from './round.js';
 import { clocksTold } from './stopped.js';
-import { resultWords, sanShown, withReason } from './words.js';
+import { sanShown } from './words.js';
 
 const MOST_SHOWN = 6;                // so many of the last moves, of both sides together
+const LOOKS = 15000;                 // milliseconds between two looks whether an arbiter's decisions are others
 
 /** All running games, in pages that turn by themselves. */
 class Wall extends HallView {
@@ -67,8 +69,7 @@ class OneBoard extends HallView {
     this.told('');
     const known = card.line && card.line.length === standing.ply + 1 && card.move && card.move.from;
     if (sent && standing.ply && !known) this.recall(number);
-    const words = resultWords(standing.result, standing.article);
-    setText(card.outcome, standing.article ? withReason(words.score, words.reason) : '');
+    setText(card.outcome, standing.article ? this.app.round.outcomeWords(standing) : '');
     this.drawMoves(card);
     this.app.titled(`${this.app.nameWords(standing.white) || '…'} – ${this.app.nameWords(standing.black) || '…'}`);
   }
@@ -108,7 +109,10 @@ class Screen {
       opened: () => this.opened(), notice: (lines) => this.notice(lines), clocks: clocksTold,
       announced: announcedTold, changed: () => this.changed(), served: (isServed) => { byId('no-broadcast').hidden = isServed; },
     });
+    this.round = new RoundFile((isOther) => isOther && this.view.render());
     this.view.open();
+    this.round.look();
+    setInterval(() => document.hidden || this.round.look(), LOOKS);
   }
 
   // ---- what the view asks for

@@ -12,6 +12,7 @@ import {
 
 export function drawPlayers(game) {
   const standing = game.standing, times = readTimes(game.tags.TimeControl || ''), result = game.counted();
+  const isUncounted = game.isUncounted();
   for (const place of ['far', 'near']) {
     const side = game.sideAt(place), root = game.players[place], name = side === 'w' ? standing.white : standing.black;
     const turn = game.running() && standing.side === side;
@@ -19,7 +20,7 @@ export function drawPlayers(game) {
     root.classList.toggle('black', side === 'b');
     root.classList.toggle('turn', turn);
     root.classList.toggle('two-periods', Boolean(times && times.moves));
-    root.classList.toggle('won', ['1', '+'].includes(scoreOf(result, side)));
+    root.classList.toggle('won', !isUncounted && ['1', '+'].includes(scoreOf(result, side)));
     setText(root.querySelector('.name'), name ? game.app.nameWords(name) : t`waiting …`);
     root.querySelector('.name').title = name;
     setText(root.querySelector('.colour'), colourWord(side));
@@ -29,7 +30,7 @@ export function drawPlayers(game) {
     setText(root.querySelector('.away'), game.room.awayWords(name));
     const period = standing.article ? '' : periodWords(times, standing.ply, game.startSide(), side);
     setText(root.querySelector('.period'), period);
-    setText(root.querySelector('.score'), game.adjournedBy ? '' : scoreOf(result, side));
+    setText(root.querySelector('.score'), game.adjournedBy || isUncounted ? '' : scoreOf(result, side));
     drawTaken(root.querySelector('.taken'), side, game.line[0] ? game.line[0].fen : standing.fen, game.fenShown());
     const clock = game.clocks[place];
     clock.label = t`${colourWord(side)}’s clock`;
@@ -113,9 +114,19 @@ export function drawActions(game) {
   show('drop', (game.app.isArbiter() || seat) && !game.started());
   byId('look-again').hidden = !game.started() || game.isPlaying();
   const areHere = !game.kept || [standing.white, standing.black].every((name) => game.app.players.has(name));
-  show('again', standing.article && seat && game.tags.TimeControl && areHere);
+  show('again', standing.article && seat && !game.adjournedBy && game.tags.TimeControl && areHere, !drawRematch(game));
   byId('move-form').hidden = !(runs && seat) || Boolean(game.proposed);
   byId('actions').hidden = Boolean(game.proposed) || ![...byId('actions').children].some((one) => !one.hidden);
+}
+
+/** What "Rematch" says, which may be offered; whether one offers it already. */
+function drawRematch(game) {
+  const { challenges } = game.app, line = game.rematchLine(), seat = game.seat(), { white, black } = game.standing;
+  const [own, other] = seat === 'b' ? [black, white] : [white, black], isAsked = challenges.stands(other, line);
+  const isOffered = challenges.stands(own, line);
+  setText(byId('again'), isAsked ? t`Accept the rematch` : isOffered ? t`Rematch offered` : t`Rematch`);
+  byId('again').classList.toggle('strong', isAsked);
+  return isOffered;
 }
 
 /** The move that waits to be agreed to: `knight g1–f3`. */
@@ -138,6 +149,7 @@ export function drawOutcome(game) {
     [head, more] = [`${resultText(result)}  ${decidedWords(result)}`, why ? `${why}. ${ended}` : ended];
   } else if (words) {
     [head, more] = [`${words.score}  ${withReason(words.result, words.reason)}`, words.article];
+    if (game.isUncounted()) [head, more] = [t`It does not count: not both have moved`, `${head}. ${more}`];
   } else if (!game.started()) {
     head = game.seat() ? t`Waiting for an opponent` : t`This seat is free`;
     more = game.seat() ? t`The clocks start as soon as somebody joins.` : t`The clocks start as soon as you join.`;

@@ -1,14 +1,19 @@
-// The table: games that wait for an opponent, that run and that are over, and the form that opens one.
+// The table: games that wait for an opponent, that run and that are over, also of those that have left it the last, and
+// the form that opens one.
 
+import { countedOf, keptItem } from './finished.js';
+import { readKept } from './kept.js';
 import { t } from './language.js';
 import { readPgn, readRefusal, readRoom, readStanding, readTimes, timesOfOpen } from './lines.js';
 import { arrange, byId, make, setText } from './make.js';
+import { folded } from './plain.js';
 import { resultText } from './round.js';
 import { TimesField } from './times.js';
 import { NO_FEN, refusalWords, timesInFull, timesWords } from './words.js';
 
-const FIRST_SHOWN = { open: 40, running: 40, over: 15 };
+const FIRST_SHOWN = { open: 40, running: 40, over: 10 };
 const MOST_OWN = 10, MOST_ROOMS = 10;
+const KEPT_AFTER = 4000;             // milliseconds: so long after a game has left the table it is among the kept ones
 
 export class TableView {
   /** app: {wire, me(), nameWords(name), openGame(line, note)}. */
@@ -17,6 +22,7 @@ export class TableView {
     this.root = byId('table-view');
     this.rows = new Map();
     this.all = new Set();
+    this.last = [];                    // of the games that were kept the newest
     this.items = new Map();            // what an element shows -> the element
     this.times = new TimesField(byId('open-form'), byId('open-times'));
     byId('open-form').addEventListener('submit', (event) => {
@@ -29,6 +35,7 @@ export class TableView {
   open() {
     this.root.hidden = false;
     this.watchOwn();
+    this.readLast();
     this.render();
   }
 
@@ -45,6 +52,7 @@ export class TableView {
   load(rows) {
     const before = this.rows;
     this.rows = new Map(rows.map((row) => [row.number, { ...before.get(row.number), ...row }]));
+    if ([...before.values()].some((row) => wasPlayed(row) && !this.rows.has(row.number))) this.readLater();
     if (!this.root.hidden) this.watchOwn();
     this.render();
     this.askTimes();
@@ -65,6 +73,7 @@ export class TableView {
 
   notice(number, sent, standing) {
     if (!standing) {
+      if (wasPlayed(this.rows.get(number))) this.readLater();
       this.rows.delete(number);
     } else {
       const { white, black, ply, result, side } = standing, before = this.rows.get(number) || {};
@@ -75,6 +84,30 @@ export class TableView {
     }
     this.watchOwn();
     this.render();
+  }
+
+  /** The games that were kept last: as many as are shown, beside those that are on the table too. */
+  async readLast() {
+    if (this.readsLast) return;
+    this.readsLast = true;
+    let found = [];
+    const state = await readKept((games) => {
+      found = found.concat(games);
+      return this.apart(found).length >= FIRST_SHOWN.over;
+    });
+    this.readsLast = false;
+    if (state !== 'failed') this.last = found.slice(0, FIRST_SHOWN.over + this.rows.size);
+    this.render();
+  }
+
+  readLater() {
+    clearTimeout(this.reads);
+    this.reads = setTimeout(() => this.root.hidden || document.hidden || this.readLast(), KEPT_AFTER);
+  }
+
+  /** Of these games those that are not on the table. */
+  apart(games) {
+    return games.filter(({ number }) => !this.rows.has(number));
   }
 
   /** A row has no times: they stand in the game's PGN, and never change. */
@@ -122,8 +155,8 @@ export class TableView {
   }
 
   groups() {
-    const me = this.app.me(), text = byId('find').value.trim().toLowerCase();
-    const has = (name) => name && `${name} ${this.app.nameWords(name)}`.toLowerCase().includes(text);
+    const me = this.app.me(), text = folded(byId('find').value);
+    const has = (name) => name && folded(`${name} ${this.app.nameWords(name)}`).includes(text);
     const groups = { own: [], open: [], running: [], over: [] };
     for (const row of this.rows.values()) {
       const mine = me && (row.white === me || row.black === me), waits = !row.white || !row.black;
@@ -147,7 +180,8 @@ export class TableView {
     byId('own-finished').href = `#/player/${me || ''}`;
     byId('open-game').disabled = !this.app.reachable();
     this.used = new Set();
-    for (const kind of ['own', 'open', 'running', 'over']) this.renderGroup(kind, groups[kind]);
+    for (const kind of ['own', 'open', 'running']) this.renderGroup(kind, groups[kind]);
+    this.renderGroup('over', groups.over, this.lastItems(FIRST_SHOWN.over - groups.over.length));
     for (const key of this.items.keys()) {
       if (!this.used.has(key)) this.items.delete(key);
     }
@@ -157,16 +191,29 @@ export class TableView {
     this.app.titled(yours === 0 ? t`Games` : yours === 1 ? t`Your turn in 1 game` : t`Your turn in ${yours} games`);
   }
 
-  renderGroup(kind, rows) {
+  /** So many of the games that were kept, of those that are looked for. */
+  lastItems(most) {
+    const text = byId('find').value.trim().toLowerCase();
+    const has = ({ tags }) => `${tags.White}\n${tags.Black}`.toLowerCase().includes(text);
+    const found = this.apart(this.last).filter(has);
+    return found.slice(0, Math.max(0, most)).map((game) => {
+      const result = countedOf(this.app.round, game);
+      return this.kept(`kept ${game.number} ${result}`, () => keptItem(game, result));
+    });
+  }
+
+  /** The rows of the table, and behind them other items. */
+  renderGroup(kind, rows, behind = []) {
     const most = this.all.has(kind) ? Infinity : FIRST_SHOWN[kind] || Infinity;
     const shown = rows.slice(0, most).map((row) => this.itemOf(row, kind));
     if (rows.length > most) {
       shown.push(this.kept(`more ${kind} ${rows.length}`, () => make('li', { class: 'more' },
         make('button', { type: 'button', onclick: () => this.showAll(kind) }, t`Show all ${rows.length}`))));
     }
+    shown.push(...behind);
     if (shown.length === 0) shown.push(this.kept(`none ${kind}`, () => make('li', { class: 'none' }, NOTHING[kind])));
     arrange(byId(`${kind}-list`), shown);
-    setText(byId(`${kind}-count`), rows.length ? String(rows.length) : '');
+    setText(byId(`${kind}-count`), rows.length && !behind.length ? String(rows.length) : '');
   }
 
   /** The row's element, the same as long as it shows the same. */
@@ -216,12 +263,18 @@ export class TableView {
   }
 
   stateWords(row) {
-    if (row.result !== '*') return resultText((this.app.round.decided(row.number, row.result) || row).result);
+    if (row.result !== '*') return resultText(this.counted(row));
     if (!row.white || !row.black) return row.isAway ? t`not connected` : '';
     if (this.mayMove(row)) return t`your turn`;
     const me = this.app.me();
     if (row.white !== me && row.black !== me) return t`watch`;
     return row.side ? t`their turn` : '';
+  }
+
+  /** What came of a game that is over: what the server says, unless an arbiter has decided it. */
+  counted({ number, result }) {
+    const kept = this.last.find((game) => game.number === number);
+    return kept ? countedOf(this.app.round, kept) : (this.app.round.decided(number, result) || { result }).result;
   }
 
   // ---- acting
@@ -242,13 +295,13 @@ export class TableView {
     }
   }
 
-  /** A position is for one game: the next begins from the usual one. */
+  /** A position and an opponent are for one game: the next begins from the usual one, and is anybody's. */
   opened() {
-    byId('open-form').elements.fen.value = '';
+    byId('open-form').elements.fen.value = byId('against').value = '';
     byId('open-form').querySelector('.from-position').open = false;
   }
 
-  submit() {
+  async submit() {
     const form = byId('open-form').elements;
     const colour = form.colour.value || (crypto.getRandomValues(new Uint8Array(1))[0] % 2 ? 'white' : 'black');
     const fen = form.fen.value.trim();
@@ -259,11 +312,16 @@ export class TableView {
     this.note('');
     const rest = `${this.times.line()}${fen ? ' ' + fen : ''}`, note = (text) => this.note(text), me = this.app.me();
     const other = form.against.value, pair = colour === 'white' ? `${me} ${other}` : `${other} ${me}`;
-    if (other) this.app.challenges.say(`${pair} ${rest}`, note);
-    else this.app.openGame(`open ${colour} ${rest}`, note);
+    if (other && await this.app.challenges.say(`${pair} ${rest}`, note)) this.opened();
+    else if (!other) this.app.openGame(`open ${colour} ${rest}`, note);
   }
 }
 
+/** Whether a row is of a game that both had joined: where it leaves the table it is kept. */
+function wasPlayed(row) {
+  return Boolean(row && row.white && row.black);
+}
+
 const NOTHING = {
-  own: '', open: t`Nobody waits for an opponent.`, running: t`No game is being played.`, over: t`No finished game is on the table.`,
+  own: '', open: t`Nobody waits for an opponent.`, running: t`No game is being played.`, over: t`No finished games yet.`,
 };

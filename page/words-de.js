@@ -789,7 +789,7 @@ export const WORDS = {
   'The newest draws by agreement, as an adjourned game is in the record, to be looked up:':
     'Die neuesten Remis durch Vereinbarung, als die eine vertagte Partie in der Aufzeichnung steht, zum Nachschlagen:',
   'Looking among the games that were kept …': 'Wird unter den aufbewahrten Partien gesucht …',
-  'No finished game is on the table.': 'Keine beendete Partie ist am Tisch.',
+  'No finished games yet.': 'Noch keine beendeten Partien.',
   'Day': 'Tag',
   'Save these as PGN': 'Diese als PGN sichern',
   'Player': 'Spieler',
@@ -854,6 +854,12 @@ export const WORDS = {
   'Direct encounter': 'Direkter Vergleich',
   'Board points': 'Brettpunkte',
   'Team': 'Mannschaft',
+  'Matches': 'Wettkämpfe',
+  'Match': 'Wettkampf',
+  'Standings of the teams': 'Mannschaftstabelle',
+  'Crosstable of the teams': 'Kreuztabelle der Mannschaften',
+  'Match points': 'Mannschaftspunkte',
+  'not over': 'nicht beendet',
   'Buchholz without the least': 'Buchholz ohne den niedrigsten Wert',
   'Buchholz': 'Buchholz',
   'Sonneborn-Berger': 'Sonneborn-Berger',
@@ -903,6 +909,21 @@ export const WORDS = {
   'Line {0}: {1} cannot be played there. The rest of this variation is left out.':
     'Zeile {0}: {1} lässt sich dort nicht ziehen. Der Rest dieser Variante ist weggelassen.',
   'Decide it': 'Entscheiden',
+  'The arbiter has decided board {0} of round {1}, {2}: {3}. Why: {4}':
+    'Der Schiedsrichter hat Brett {0} der Runde {1}, {2}, entschieden: {3}. Grund: {4}',
+  'please wait': 'bitte warten',
+  'Make a new link for {0}, to print?': 'Einen neuen Link für {0} machen, zum Drucken?',
+  'The arbiter, {0}, has ended the game. It does not count.':
+    'Der Schiedsrichter, {0}, hat die Partie beendet. Sie zählt nicht.',
+  'It does not count: not both have moved': 'Sie zählt nicht: nicht beide haben gezogen',
+  'for this reason, if any': 'aus diesem Grund, wenn es einen gibt',
+  'Offer a draw?': 'Remis anbieten?',
+  'It stands until your opponent declines it or moves.': 'Das Angebot steht, bis dein Gegner es ablehnt oder zieht.',
+  'Board {0} of round {1}, {2}: {3}. Who does not come in time loses.':
+    'Brett {0} der Runde {1}, {2}: {3}. Wer nicht rechtzeitig kommt, verliert.',
+  'The game has begun.': 'Die Partie hat begonnen.',
+  'Accept the rematch': 'Revanche annehmen',
+  'Rematch offered': 'Revanche angeboten',
   'The arbiter has decided board {0} of round {1}: {2}. Why: {3}':
     'Der Schiedsrichter hat Brett {0} der Runde {1} entschieden: {2}. Grund: {3}',
   'The decision could not be put down: look whether round and board are right; else tell who runs the lobby.':
@@ -957,6 +978,12 @@ export const WORDS = {
   '+ –: Black did not come': '+ –: Schwarz ist nicht gekommen',
   '– +: White did not come': '– +: Weiß ist nicht gekommen',
   '– –: neither came': '– –: keiner ist gekommen',
+  'as it was played': 'wie gespielt',
+  '{0}, not rated': '{0}, nicht gewertet',
+  '1–0, not rated: not both have moved': '1–0, nicht gewertet: nicht beide haben gezogen',
+  '½–½, not rated: not both have moved': '½–½, nicht gewertet: nicht beide haben gezogen',
+  '0–1, not rated: not both have moved': '0–1, nicht gewertet: nicht beide haben gezogen',
+  'As it was played: what was decided counts no more': 'Wie gespielt: was entschieden wurde, zählt nicht mehr',
   'Article': 'Artikel',
   ['A decision counts in place of what the server says: in results, reports and standings. The game’s own record '
     + 'stays as it is, and the last decision about a board counts. Everybody is told it.']:
@@ -966,6 +993,17 @@ export const WORDS = {
   'Decide a result': 'Ein Ergebnis entscheiden',
   'The game’s number': 'Nummer der Partie',
   'Game {0} goes on: first its result is entered.': 'Partie {0} läuft noch: zuerst wird ihr Ergebnis eingetragen.',
+  'No such board was told of this round.': 'Von dieser Runde ist kein solches Brett bekannt.',
+  'This board has a bye.': 'Dieses Brett hat spielfrei.',
+  'No game is known of this board.': 'Von diesem Brett ist keine Partie bekannt.',
+  'Decide the result of board {0} of round {1}: {2} – {3}': 'Das Ergebnis von Brett {0} der Runde {1} entscheiden: {2} – {3}',
+  'Board {0} of round {1} is the bye of {2}.': 'Brett {0} der Runde {1} ist das Freilos von {2}.',
+  'Board {0} of round {1} is of {2} and {3}, and not of these two.':
+    'An Brett {0} der Runde {1} sitzen {2} und {3}, und nicht diese beiden.',
+  'Decide about that board all the same?': 'Trotzdem über dieses Brett entscheiden?',
+  'Or the round': 'Oder die Runde',
+  'and the board': 'und das Brett',
+  'Of a board that may have no game': 'Von einem Brett, das vielleicht keine Partie hat',
   'Default time, min': 'Wartezeit, min',
   '{0} has not come within the default time, {1} min': '{0} ist in der Wartezeit nicht gekommen, {1} min',
   '{0} has come after the default time, {1} min': '{0} ist nach der Wartezeit gekommen, {1} min',

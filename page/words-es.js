@@ -783,7 +783,7 @@ export const WORDS = {
   'The newest draws by agreement, as an adjourned game is in the record, to be looked up:':
     'Las últimas tablas de mutuo acuerdo, como figura en el registro una partida aplazada, para buscarla:',
   'Looking among the games that were kept …': 'Buscando entre las partidas guardadas …',
-  'No finished game is on the table.': 'No hay ninguna partida terminada en la mesa.',
+  'No finished games yet.': 'Aún no hay partidas terminadas.',
   'Day': 'Día',
   'Save these as PGN': 'Guardar estas en PGN',
   'Player': 'Jugador',
@@ -846,6 +846,12 @@ export const WORDS = {
   'Direct encounter': 'Resultado particular',
   'Board points': 'Puntos de tablero',
   'Team': 'Equipo',
+  'Matches': 'Encuentros',
+  'Match': 'Encuentro',
+  'Standings of the teams': 'Clasificación por equipos',
+  'Crosstable of the teams': 'Cuadro cruzado por equipos',
+  'Match points': 'Puntos de encuentro',
+  'not over': 'sin terminar',
   'Buchholz without the least': 'Buchholz sin el valor menor',
   'Buchholz': 'Buchholz',
   'Sonneborn-Berger': 'Sonneborn-Berger',
@@ -895,6 +901,20 @@ export const WORDS = {
   'Line {0}: {1} cannot be played there. The rest of this variation is left out.':
     'Línea {0}: {1} no se puede jugar ahí. El resto de esta variante se omite.',
   'Decide it': 'Decidir',
+  'The arbiter has decided board {0} of round {1}, {2}: {3}. Why: {4}':
+    'El árbitro ha decidido la mesa {0} de la ronda {1}, {2}: {3}. Motivo: {4}',
+  'please wait': 'esperad, por favor',
+  'Make a new link for {0}, to print?': '¿Hacer un enlace nuevo para {0}, para imprimir?',
+  'The arbiter, {0}, has ended the game. It does not count.': 'El árbitro, {0}, ha terminado la partida. No cuenta.',
+  'It does not count: not both have moved': 'No cuenta: no han jugado los dos',
+  'for this reason, if any': 'por este motivo, si lo hay',
+  'Offer a draw?': '¿Ofrecer tablas?',
+  'It stands until your opponent declines it or moves.': 'La oferta vale hasta que tu rival la rechace o juegue.',
+  'Board {0} of round {1}, {2}: {3}. Who does not come in time loses.':
+    'Mesa {0} de la ronda {1}, {2}: {3}. Quien no llega a tiempo pierde.',
+  'The game has begun.': 'La partida ha empezado.',
+  'Accept the rematch': 'Aceptar la revancha',
+  'Rematch offered': 'Revancha ofrecida',
   'The arbiter has decided board {0} of round {1}: {2}. Why: {3}':
     'El árbitro ha decidido la mesa {0} de la ronda {1}: {2}. Motivo: {3}',
   'The decision could not be put down: look whether round and board are right; else tell who runs the lobby.':
@@ -949,6 +969,12 @@ export const WORDS = {
   '+ –: Black did not come': '+ –: no se presentaron las negras',
   '– +: White did not come': '– +: no se presentaron las blancas',
   '– –: neither came': '– –: no se presentó nadie',
+  'as it was played': 'como se jugó',
+  '{0}, not rated': '{0}, sin valorar para Elo',
+  '1–0, not rated: not both have moved': '1–0, sin valorar: no han movido ambos',
+  '½–½, not rated: not both have moved': '½–½, sin valorar: no han movido ambos',
+  '0–1, not rated: not both have moved': '0–1, sin valorar: no han movido ambos',
+  'As it was played: what was decided counts no more': 'Como se jugó: lo decidido ya no cuenta',
   'Article': 'Artículo',
   ['A decision counts in place of what the server says: in results, reports and standings. The game’s own record '
     + 'stays as it is, and the last decision about a board counts. Everybody is told it.']:
@@ -958,6 +984,17 @@ export const WORDS = {
   'Decide a result': 'Decidir un resultado',
   'The game’s number': 'Número de la partida',
   'Game {0} goes on: first its result is entered.': 'La partida {0} sigue: primero se anota su resultado.',
+  'No such board was told of this round.': 'De esta ronda no se conoce tal tablero.',
+  'This board has a bye.': 'Este tablero descansa.',
+  'No game is known of this board.': 'De este tablero no se conoce ninguna partida.',
+  'Decide the result of board {0} of round {1}: {2} – {3}': 'Decidir el resultado del tablero {0} de la ronda {1}: {2} – {3}',
+  'Board {0} of round {1} is the bye of {2}.': 'El tablero {0} de la ronda {1} es el descanso de {2}.',
+  'Board {0} of round {1} is of {2} and {3}, and not of these two.':
+    'El tablero {0} de la ronda {1} es de {2} y {3}, y no de estos dos.',
+  'Decide about that board all the same?': '¿Decidir sobre ese tablero de todos modos?',
+  'Or the round': 'O la ronda',
+  'and the board': 'y el tablero',
+  'Of a board that may have no game': 'De un tablero que quizá no tenga partida',
   'Default time, min': 'Tiempo de espera, min',
   '{0} has not come within the default time, {1} min': '{0}: no se presentaron en el tiempo de espera, {1} min',
   '{0} has come after the default time, {1} min': '{0}: llegaron después del tiempo de espera, {1} min',

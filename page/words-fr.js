@@ -212,7 +212,7 @@ export const WORDS = {
   '{0} to {1} of {2}': '{0} à {1} sur {2}',
   'It could not be copied. Mark it, and copy it by hand.':
     'La copie n’a pas réussi. Sélectionnez le lien et copiez-le à la main.',
-  'Make a new link for {0}?': 'Créer un nouveau lien pour {0} ?',
+  'Make a new link for {0}?': 'Faire un nouveau lien pour {0} ?',
   'Make it': 'Créer',
   'That is your own. The link that you have holds no more; this page goes on with the new one.':
     'C’est le vôtre. Le lien que vous avez ne sera plus valable ; cette page continue avec le nouveau.',
@@ -794,7 +794,7 @@ export const WORDS = {
   'The newest draws by agreement, as an adjourned game is in the record, to be looked up:':
     'Les dernières nulles par accord mutuel, comme une partie ajournée figure au registre, à rechercher :',
   'Looking among the games that were kept …': 'Recherche parmi les parties gardées …',
-  'No finished game is on the table.': 'Aucune partie terminée n’est sur la table.',
+  'No finished games yet.': 'Pas encore de partie terminée.',
   'Day': 'Jour',
   'Save these as PGN': 'Enregistrer en PGN',
   'Player': 'Joueur',
@@ -860,6 +860,12 @@ export const WORDS = {
   'Direct encounter': 'Confrontation directe',
   'Board points': 'Points de partie',
   'Team': 'Équipe',
+  'Matches': 'Matchs',
+  'Match': 'Match',
+  'Standings of the teams': 'Classement des équipes',
+  'Crosstable of the teams': 'Grille croisée des équipes',
+  'Match points': 'Points de match',
+  'not over': 'pas terminé',
   'Buchholz without the least': 'Buchholz sans le plus faible',
   'Buchholz': 'Buchholz',
   'Sonneborn-Berger': 'Sonneborn-Berger',
@@ -909,6 +915,22 @@ export const WORDS = {
   'Line {0}: {1} cannot be played there. The rest of this variation is left out.':
     'Ligne {0} : {1} ne peut pas y être joué. Le reste de cette variante est laissé de côté.',
   'Decide it': 'Décider',
+  'The arbiter has decided board {0} of round {1}, {2}: {3}. Why: {4}':
+    'L’arbitre a décidé l’échiquier {0} de la ronde {1}, {2} : {3}. Motif : {4}',
+  'please wait': 'veuillez patienter',
+  'Make a new link for {0}, to print?': 'Faire un nouveau lien pour {0}, à imprimer ?',
+  'The arbiter, {0}, has ended the game. It does not count.':
+    'L’arbitre, {0}, a mis fin à la partie. Elle ne compte pas.',
+  'It does not count: not both have moved': 'Elle ne compte pas : les deux n’ont pas joué',
+  'for this reason, if any': 'pour ce motif, s’il y en a un',
+  'Offer a draw?': 'Proposer la nulle ?',
+  'It stands until your opponent declines it or moves.':
+    'La proposition tient jusqu’à ce que votre adversaire la refuse ou joue.',
+  'Board {0} of round {1}, {2}: {3}. Who does not come in time loses.':
+    'Échiquier {0} de la ronde {1}, {2} : {3}. Qui n’arrive pas à temps perd.',
+  'The game has begun.': 'La partie a commencé.',
+  'Accept the rematch': 'Accepter la revanche',
+  'Rematch offered': 'Revanche proposée',
   'The arbiter has decided board {0} of round {1}: {2}. Why: {3}':
     'L’arbitre a décidé l’échiquier {0} de la ronde {1} : {2}. Motif : {3}',
   'The decision could not be put down: look whether round and board are right; else tell who runs the lobby.':
@@ -963,6 +985,12 @@ export const WORDS = {
   '+ –: Black did not come': '+ – : les Noirs ne sont pas venus',
   '– +: White did not come': '– + : les Blancs ne sont pas venus',
   '– –: neither came': '– – : personne n’est venu',
+  'as it was played': 'tel que joué',
+  '{0}, not rated': '{0}, non comptée pour l’Elo',
+  '1–0, not rated: not both have moved': '1–0, non comptée pour l’Elo : les deux n’ont pas joué',
+  '½–½, not rated: not both have moved': '½–½, non comptée pour l’Elo : les deux n’ont pas joué',
+  '0–1, not rated: not both have moved': '0–1, non comptée pour l’Elo : les deux n’ont pas joué',
+  'As it was played: what was decided counts no more': 'Tel que joué : ce qui a été décidé ne compte plus',
   'Article': 'Article',
   ['A decision counts in place of what the server says: in results, reports and standings. The game’s own record '
     + 'stays as it is, and the last decision about a board counts. Everybody is told it.']:
@@ -972,6 +1000,18 @@ export const WORDS = {
   'Decide a result': 'Décider un résultat',
   'The game’s number': 'Numéro de la partie',
   'Game {0} goes on: first its result is entered.': 'La partie {0} continue : son résultat est d’abord à inscrire.',
+  'No such board was told of this round.': 'Cette ronde n’a pas d’échiquier de ce numéro.',
+  'This board has a bye.': 'Cet échiquier est exempt.',
+  'No game is known of this board.': 'On ne connaît pas de partie de cet échiquier.',
+  'Decide the result of board {0} of round {1}: {2} – {3}':
+    'Décider le résultat de l’échiquier {0} de la ronde {1} : {2} – {3}',
+  'Board {0} of round {1} is the bye of {2}.': 'L’échiquier {0} de la ronde {1} est l’exemption de {2}.',
+  'Board {0} of round {1} is of {2} and {3}, and not of these two.':
+    'L’échiquier {0} de la ronde {1} est celui de {2} et {3}, et non de ces deux-là.',
+  'Decide about that board all the same?': 'Décider quand même pour cet échiquier ?',
+  'Or the round': 'Ou la ronde',
+  'and the board': 'et l’échiquier',
+  'Of a board that may have no game': 'D’un échiquier qui peut être sans partie',
   'Default time, min': 'Délai d’attente, min',
   '{0} has not come within the default time, {1} min': '{0} : absence pendant tout le délai d’attente, {1} min',
   '{0} has come after the default time, {1} min': '{0} : arrivée après le délai d’attente, {1} min',

@@ -787,7 +787,7 @@ export const WORDS = {
   'The newest draws by agreement, as an adjourned game is in the record, to be looked up:':
     'Le ultime patte d’accordo, come una partita sospesa risulta nel registro, da cercare:',
   'Looking among the games that were kept …': 'Ricerca tra le partite conservate …',
-  'No finished game is on the table.': 'Nessuna partita finita è sul tavolo.',
+  'No finished games yet.': 'Ancora nessuna partita finita.',
   'Day': 'Giorno',
   'Save these as PGN': 'Salva queste in PGN',
   'Player': 'Giocatore',
@@ -851,6 +851,12 @@ export const WORDS = {
   'Direct encounter': 'Scontro diretto',
   'Board points': 'Punti individuali',
   'Team': 'Squadra',
+  'Matches': 'Incontri',
+  'Match': 'Incontro',
+  'Standings of the teams': 'Classifica a squadre',
+  'Crosstable of the teams': 'Tabella incrociata a squadre',
+  'Match points': 'Punti squadra',
+  'not over': 'non terminato',
   'Buchholz without the least': 'Buchholz senza il valore minore',
   'Buchholz': 'Buchholz',
   'Sonneborn-Berger': 'Sonneborn-Berger',
@@ -900,6 +906,20 @@ export const WORDS = {
   'Line {0}: {1} cannot be played there. The rest of this variation is left out.':
     'Riga {0}: {1} lì non si può giocare. Il resto di questa variante è tralasciato.',
   'Decide it': 'Decidi',
+  'The arbiter has decided board {0} of round {1}, {2}: {3}. Why: {4}':
+    'L’arbitro ha deciso la scacchiera {0} del turno {1}, {2}: {3}. Motivo: {4}',
+  'please wait': 'attendere, prego',
+  'Make a new link for {0}, to print?': 'Fare un nuovo link per {0}, da stampare?',
+  'The arbiter, {0}, has ended the game. It does not count.': 'L’arbitro, {0}, ha chiuso la partita. Non conta.',
+  'It does not count: not both have moved': 'Non conta: non hanno mosso entrambi',
+  'for this reason, if any': 'per questo motivo, se c’è',
+  'Offer a draw?': 'Offrire la patta?',
+  'It stands until your opponent declines it or moves.': 'L’offerta vale finché l’avversario non la rifiuta o muove.',
+  'Board {0} of round {1}, {2}: {3}. Who does not come in time loses.':
+    'Scacchiera {0} del turno {1}, {2}: {3}. Chi non arriva in tempo perde.',
+  'The game has begun.': 'La partita è cominciata.',
+  'Accept the rematch': 'Accetta la rivincita',
+  'Rematch offered': 'Rivincita offerta',
   'The arbiter has decided board {0} of round {1}: {2}. Why: {3}':
     'L’arbitro ha deciso la scacchiera {0} del turno {1}: {2}. Motivo: {3}',
   'The decision could not be put down: look whether round and board are right; else tell who runs the lobby.':
@@ -955,6 +975,12 @@ export const WORDS = {
   '+ –: Black did not come': '+ –: il Nero non è venuto',
   '– +: White did not come': '– +: il Bianco non è venuto',
   '– –: neither came': '– –: non è venuto nessuno',
+  'as it was played': 'come è stata giocata',
+  '{0}, not rated': '{0}, non valida per l’Elo',
+  '1–0, not rated: not both have moved': '1–0, non valida per l’Elo: non hanno mosso entrambi',
+  '½–½, not rated: not both have moved': '½–½, non valida per l’Elo: non hanno mosso entrambi',
+  '0–1, not rated: not both have moved': '0–1, non valida per l’Elo: non hanno mosso entrambi',
+  'As it was played: what was decided counts no more': 'Come è stata giocata: ciò che è stato deciso non vale più',
   'Article': 'Articolo',
   ['A decision counts in place of what the server says: in results, reports and standings. The game’s own record '
     + 'stays as it is, and the last decision about a board counts. Everybody is told it.']:
@@ -964,6 +990,18 @@ export const WORDS = {
   'Decide a result': 'Decidi un risultato',
   'The game’s number': 'Numero della partita',
   'Game {0} goes on: first its result is entered.': 'La partita {0} continua: prima si registra il suo risultato.',
+  'No such board was told of this round.': 'Di questo turno non è nota tale scacchiera.',
+  'This board has a bye.': 'Questa scacchiera riposa.',
+  'No game is known of this board.': 'Di questa scacchiera non è nota alcuna partita.',
+  'Decide the result of board {0} of round {1}: {2} – {3}':
+    'Decidere il risultato della scacchiera {0} del turno {1}: {2} – {3}',
+  'Board {0} of round {1} is the bye of {2}.': 'La scacchiera {0} del turno {1} è il riposo di {2}.',
+  'Board {0} of round {1} is of {2} and {3}, and not of these two.':
+    'La scacchiera {0} del turno {1} è di {2} e {3}, e non di questi due.',
+  'Decide about that board all the same?': 'Decidere comunque su quella scacchiera?',
+  'Or the round': 'O il turno',
+  'and the board': 'e la scacchiera',
+  'Of a board that may have no game': 'Di una scacchiera che può non avere partita',
   'Default time, min': 'Tempo di attesa, min',
   '{0} has not come within the default time, {1} min': 'Il {0} non è venuto nel tempo di attesa, {1} min',
   '{0} has come after the default time, {1} min': 'Il {0} è venuto dopo il tempo di attesa, {1} min',

@@ -789,7 +789,7 @@ export const WORDS = {
   'The newest draws by agreement, as an adjourned game is in the record, to be looked up:':
     'De nieuwste remises door overeenkomst, zoals een afgebroken partij in het verslag staat, om op te zoeken:',
   'Looking among the games that were kept …': 'Er wordt gezocht bij de bewaarde partijen …',
-  'No finished game is on the table.': 'Er staat geen afgelopen partij op tafel.',
+  'No finished games yet.': 'Nog geen afgelopen partijen.',
   'Day': 'Dag',
   'Save these as PGN': 'Deze als PGN opslaan',
   'Player': 'Speler',
@@ -853,6 +853,12 @@ export const WORDS = {
   'Direct encounter': 'Onderling resultaat',
   'Board points': 'Bordpunten',
   'Team': 'Team',
+  'Matches': 'Wedstrijden',
+  'Match': 'Wedstrijd',
+  'Standings of the teams': 'Stand van de teams',
+  'Crosstable of the teams': 'Kruistabel van de teams',
+  'Match points': 'Matchpunten',
+  'not over': 'niet afgelopen',
   'Buchholz without the least': 'Buchholz zonder de laagste',
   'Buchholz': 'Buchholz',
   'Sonneborn-Berger': 'Sonneborn-Berger',
@@ -902,6 +908,21 @@ export const WORDS = {
   'Line {0}: {1} cannot be played there. The rest of this variation is left out.':
     'Regel {0}: {1} kan daar niet gespeeld worden. De rest van deze variant is weggelaten.',
   'Decide it': 'Beslissen',
+  'The arbiter has decided board {0} of round {1}, {2}: {3}. Why: {4}':
+    'De arbiter heeft bord {0} van ronde {1}, {2}, beslist: {3}. Reden: {4}',
+  'please wait': 'even geduld',
+  'Make a new link for {0}, to print?': 'Een nieuwe link voor {0} maken, om af te drukken?',
+  'The arbiter, {0}, has ended the game. It does not count.':
+    'De arbiter, {0}, heeft de partij beëindigd. Ze telt niet mee.',
+  'It does not count: not both have moved': 'Ze telt niet mee: niet beiden hebben gezet',
+  'for this reason, if any': 'om deze reden, als die er is',
+  'Offer a draw?': 'Remise aanbieden?',
+  'It stands until your opponent declines it or moves.': 'Het aanbod geldt tot je tegenstander het afwijst of zet.',
+  'Board {0} of round {1}, {2}: {3}. Who does not come in time loses.':
+    'Bord {0} van ronde {1}, {2}: {3}. Wie niet op tijd komt, verliest.',
+  'The game has begun.': 'De partij is begonnen.',
+  'Accept the rematch': 'Revanche aannemen',
+  'Rematch offered': 'Revanche aangeboden',
   'The arbiter has decided board {0} of round {1}: {2}. Why: {3}':
     'De arbiter heeft bord {0} van ronde {1} beslist: {2}. Reden: {3}',
   'The decision could not be put down: look whether round and board are right; else tell who runs the lobby.':
@@ -956,6 +977,12 @@ export const WORDS = {
   '+ –: Black did not come': '+ –: Zwart is niet gekomen',
   '– +: White did not come': '– +: Wit is niet gekomen',
   '– –: neither came': '– –: niemand is gekomen',
+  'as it was played': 'zoals gespeeld',
+  '{0}, not rated': '{0}, telt niet voor rating',
+  '1–0, not rated: not both have moved': '1–0, telt niet voor rating: niet beiden hebben gezet',
+  '½–½, not rated: not both have moved': '½–½, telt niet voor rating: niet beiden hebben gezet',
+  '0–1, not rated: not both have moved': '0–1, telt niet voor rating: niet beiden hebben gezet',
+  'As it was played: what was decided counts no more': 'Zoals gespeeld: wat beslist is, telt niet meer',
   'Article': 'Artikel',
   ['A decision counts in place of what the server says: in results, reports and standings. The game’s own record '
     + 'stays as it is, and the last decision about a board counts. Everybody is told it.']:
@@ -964,6 +991,17 @@ export const WORDS = {
   'Decide a result': 'Een uitslag bepalen',
   'The game’s number': 'Nummer van de partij',
   'Game {0} goes on: first its result is entered.': 'Partij {0} gaat door: eerst wordt haar uitslag ingevoerd.',
+  'No such board was told of this round.': 'Van deze ronde is zo’n bord niet bekend.',
+  'This board has a bye.': 'Dit bord is vrij.',
+  'No game is known of this board.': 'Van dit bord is geen partij bekend.',
+  'Decide the result of board {0} of round {1}: {2} – {3}': 'De uitslag van bord {0} van ronde {1} beslissen: {2} – {3}',
+  'Board {0} of round {1} is the bye of {2}.': 'Bord {0} van ronde {1} is de vrije ronde van {2}.',
+  'Board {0} of round {1} is of {2} and {3}, and not of these two.':
+    'Aan bord {0} van ronde {1} zitten {2} en {3}, en niet deze twee.',
+  'Decide about that board all the same?': 'Toch over dat bord beslissen?',
+  'Or the round': 'Of de ronde',
+  'and the board': 'en het bord',
+  'Of a board that may have no game': 'Van een bord dat misschien geen partij heeft',
   'Default time, min': 'Wachttijd, min',
   '{0} has not come within the default time, {1} min': '{0} is niet binnen de wachttijd gekomen, {1} min',
   '{0} has come after the default time, {1} min': '{0} is na de wachttijd gekomen, {1} min',

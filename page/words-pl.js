@@ -780,7 +780,7 @@ export const WORDS = {
   'The newest draws by agreement, as an adjourned game is in the record, to be looked up:':
     'Najnowsze remisy przez zgodę, bo tak odłożona partia stoi w zapisie, do odszukania:',
   'Looking among the games that were kept …': 'Szukanie wśród zachowanych partii …',
-  'No finished game is on the table.': 'Na stole nie ma skończonej partii.',
+  'No finished games yet.': 'Nie ma jeszcze zakończonych partii.',
   'Day': 'Dzień',
   'Save these as PGN': 'Zapisz te jako PGN',
   'Player': 'Gracz',
@@ -844,6 +844,12 @@ export const WORDS = {
   'Direct encounter': 'Wynik bezpośredni',
   'Board points': 'Małe punkty',
   'Team': 'Drużyna',
+  'Matches': 'Mecze',
+  'Match': 'Mecz',
+  'Standings of the teams': 'Klasyfikacja drużyn',
+  'Crosstable of the teams': 'Tabela krzyżowa drużyn',
+  'Match points': 'Punkty meczowe',
+  'not over': 'niezakończony',
   'Buchholz without the least': 'Buchholz bez najniższego',
   'Buchholz': 'Buchholz',
   'Sonneborn-Berger': 'Sonneborn-Berger',
@@ -892,6 +898,21 @@ export const WORDS = {
   'Line {0}: {1} cannot be played there. The rest of this variation is left out.':
     'Wiersz {0}: {1} nie może tam być zagrane. Resztę tego wariantu pominięto.',
   'Decide it': 'Rozstrzygnij',
+  'The arbiter has decided board {0} of round {1}, {2}: {3}. Why: {4}':
+    'Sędzia rozstrzygnął szachownicę {0} rundy {1}, {2}: {3}. Powód: {4}',
+  'please wait': 'proszę czekać',
+  'Make a new link for {0}, to print?': 'Utworzyć nowy link dla {0}, do druku?',
+  'The arbiter, {0}, has ended the game. It does not count.': 'Sędzia, {0}, zakończył partię. Nie liczy się.',
+  'It does not count: not both have moved': 'Nie liczy się: nie obie strony wykonały ruch',
+  'for this reason, if any': 'z tego powodu, jeśli jest',
+  'Offer a draw?': 'Zaproponować remis?',
+  'It stands until your opponent declines it or moves.':
+    'Propozycja stoi, dopóki przeciwnik jej nie odrzuci albo nie wykona ruchu.',
+  'Board {0} of round {1}, {2}: {3}. Who does not come in time loses.':
+    'Szachownica {0} rundy {1}, {2}: {3}. Kto nie przyjdzie na czas, przegrywa.',
+  'The game has begun.': 'Partia się zaczęła.',
+  'Accept the rematch': 'Przyjmij rewanż',
+  'Rematch offered': 'Rewanż zaproponowany',
   'The arbiter has decided board {0} of round {1}: {2}. Why: {3}':
     'Sędzia rozstrzygnął szachownicę {0} rundy {1}: {2}. Powód: {3}',
   'The decision could not be put down: look whether round and board are right; else tell who runs the lobby.':
@@ -944,6 +965,12 @@ export const WORDS = {
   '+ –: Black did not come': '+ –: czarne nie przyszły',
   '– +: White did not come': '– +: białe nie przyszły',
   '– –: neither came': '– –: nikt nie przyszedł',
+  'as it was played': 'tak, jak rozegrano',
+  '{0}, not rated': '{0}, bez zaliczenia do rankingu',
+  '1–0, not rated: not both have moved': '1–0, bez zaliczenia do rankingu: nie obie strony wykonały ruch',
+  '½–½, not rated: not both have moved': '½–½, bez zaliczenia do rankingu: nie obie strony wykonały ruch',
+  '0–1, not rated: not both have moved': '0–1, bez zaliczenia do rankingu: nie obie strony wykonały ruch',
+  'As it was played: what was decided counts no more': 'Tak, jak rozegrano: wcześniejsza decyzja już się nie liczy',
   'Article': 'Artykuł',
   ['A decision counts in place of what the server says: in results, reports and standings. The game’s own record '
     + 'stays as it is, and the last decision about a board counts. Everybody is told it.']:
@@ -952,6 +979,18 @@ export const WORDS = {
   'Decide a result': 'Rozstrzygnij jakiś wynik',
   'The game’s number': 'Numer partii',
   'Game {0} goes on: first its result is entered.': 'Partia {0} trwa: najpierw zapisuje się jej wynik.',
+  'No such board was told of this round.': 'W tej rundzie nie ma takiej szachownicy.',
+  'This board has a bye.': 'Ta szachownica pauzuje.',
+  'No game is known of this board.': 'Partia tej szachownicy nie jest znana.',
+  'Decide the result of board {0} of round {1}: {2} – {3}':
+    'Rozstrzygnij wynik szachownicy {0} rundy {1}: {2} – {3}',
+  'Board {0} of round {1} is the bye of {2}.': 'Szachownica {0} rundy {1} to pauza: {2}.',
+  'Board {0} of round {1} is of {2} and {3}, and not of these two.':
+    'Przy szachownicy {0} rundy {1} grają {2} i {3}, a nie tych dwoje.',
+  'Decide about that board all the same?': 'Mimo to rozstrzygnąć o tej szachownicy?',
+  'Or the round': 'Albo runda',
+  'and the board': 'i szachownica',
+  'Of a board that may have no game': 'O szachownicy, która może nie mieć partii',
   'Default time, min': 'Czas oczekiwania, min',
   '{0} has not come within the default time, {1} min': '{0}: nieobecność przez cały czas oczekiwania, {1} min',
   '{0} has come after the default time, {1} min': '{0}: przyjście po czasie oczekiwania, {1} min',

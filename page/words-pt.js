@@ -778,7 +778,7 @@ export const WORDS = {
   'The newest draws by agreement, as an adjourned game is in the record, to be looked up:':
     'Os empates mais recentes por acordo, como uma partida adiada consta no registro, para procurar:',
   'Looking among the games that were kept …': 'Procurando entre as partidas guardadas …',
-  'No finished game is on the table.': 'Nenhuma partida terminada está na mesa.',
+  'No finished games yet.': 'Ainda não há partidas terminadas.',
   'Day': 'Dia',
   'Save these as PGN': 'Guardar estas em PGN',
   'Player': 'Jogador',
@@ -840,7 +840,13 @@ export const WORDS = {
   'not begun': 'não começada',
   'Direct encounter': 'Confronto direto',
   'Board points': 'Pontos de tabuleiro',
-  'Team': 'Equipa',
+  'Team': 'Equipe',
+  'Matches': 'Encontros',
+  'Match': 'Encontro',
+  'Standings of the teams': 'Classificação das equipes',
+  'Crosstable of the teams': 'Quadro cruzado das equipes',
+  'Match points': 'Pontos de encontro',
+  'not over': 'não terminado',
   'Buchholz without the least': 'Buchholz sem o menor',
   'Buchholz': 'Buchholz',
   'Sonneborn-Berger': 'Sonneborn-Berger',
@@ -890,6 +896,20 @@ export const WORDS = {
   'Line {0}: {1} cannot be played there. The rest of this variation is left out.':
     'Linha {0}: {1} não pode ser jogado ali. O resto desta variante fica de fora.',
   'Decide it': 'Decidir',
+  'The arbiter has decided board {0} of round {1}, {2}: {3}. Why: {4}':
+    'O árbitro decidiu o tabuleiro {0} da ronda {1}, {2}: {3}. Motivo: {4}',
+  'please wait': 'aguardem, por favor',
+  'Make a new link for {0}, to print?': 'Criar um novo link para {0}, para imprimir?',
+  'The arbiter, {0}, has ended the game. It does not count.': 'O árbitro, {0}, terminou a partida. Não conta.',
+  'It does not count: not both have moved': 'Não conta: não jogaram os dois',
+  'for this reason, if any': 'por este motivo, se houver',
+  'Offer a draw?': 'Propor empate?',
+  'It stands until your opponent declines it or moves.': 'A proposta vale até o adversário a recusar ou jogar.',
+  'Board {0} of round {1}, {2}: {3}. Who does not come in time loses.':
+    'Tabuleiro {0} da ronda {1}, {2}: {3}. Quem não chega a tempo perde.',
+  'The game has begun.': 'A partida começou.',
+  'Accept the rematch': 'Aceitar a desforra',
+  'Rematch offered': 'Desforra proposta',
   'The arbiter has decided board {0} of round {1}: {2}. Why: {3}':
     'O árbitro decidiu o tabuleiro {0} da ronda {1}: {2}. Motivo: {3}',
   'The decision could not be put down: look whether round and board are right; else tell who runs the lobby.':
@@ -943,6 +963,12 @@ export const WORDS = {
   '+ –: Black did not come': '+ –: as pretas não vieram',
   '– +: White did not come': '– +: as brancas não vieram',
   '– –: neither came': '– –: ninguém veio',
+  'as it was played': 'como foi jogado',
+  '{0}, not rated': '{0}, sem valer para rating',
+  '1–0, not rated: not both have moved': '1–0, sem valer para rating: nem ambos jogaram',
+  '½–½, not rated: not both have moved': '½–½, sem valer para rating: nem ambos jogaram',
+  '0–1, not rated: not both have moved': '0–1, sem valer para rating: nem ambos jogaram',
+  'As it was played: what was decided counts no more': 'Como foi jogado: o que foi decidido já não vale',
   'Article': 'Artigo',
   ['A decision counts in place of what the server says: in results, reports and standings. The game’s own record '
     + 'stays as it is, and the last decision about a board counts. Everybody is told it.']:
@@ -951,6 +977,18 @@ export const WORDS = {
   'Decide a result': 'Decidir um resultado',
   'The game’s number': 'Número da partida',
   'Game {0} goes on: first its result is entered.': 'A partida {0} continua: primeiro se registra o resultado.',
+  'No such board was told of this round.': 'Desta ronda não se conhece tal tabuleiro.',
+  'This board has a bye.': 'Este tabuleiro folga.',
+  'No game is known of this board.': 'Deste tabuleiro não se conhece nenhuma partida.',
+  'Decide the result of board {0} of round {1}: {2} – {3}':
+    'Decidir o resultado do tabuleiro {0} da ronda {1}: {2} – {3}',
+  'Board {0} of round {1} is the bye of {2}.': 'O tabuleiro {0} da ronda {1} é a folga de {2}.',
+  'Board {0} of round {1} is of {2} and {3}, and not of these two.':
+    'O tabuleiro {0} da ronda {1} é de {2} e {3}, e não destes dois.',
+  'Decide about that board all the same?': 'Decidir sobre esse tabuleiro mesmo assim?',
+  'Or the round': 'Ou a ronda',
+  'and the board': 'e o tabuleiro',
+  'Of a board that may have no game': 'De um tabuleiro que pode não ter partida',
   'Default time, min': 'Tolerância, min',
   '{0} has not come within the default time, {1} min': '{0}: não chegaram no tempo de tolerância, {1} min',
   '{0} has come after the default time, {1} min': '{0}: chegaram depois do tempo de tolerância, {1} min',

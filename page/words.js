@@ -78,6 +78,7 @@ export function arbiterWords(refusal) {
 
 /** `no 14 FlagUp` and the like: told to nobody, since they only say that a clock is a little ahead. */
 export const FLAG_UP = 14, OVER = 6, WRONG_PLY = 7;
+export const CLOCKS_STOPPED = 46;
 export const BAD_LINE = 1, NO_GAME = 3, NOT_YOUR_MOVE = 8, BAD_FEN = 17, BAD_TOKEN = 32;
 export const AGREED = 2;             // both sides have moved then: a draw can be agreed on
 export const NO_FEN = t`A FEN has letters, digits and the signs / and - alone.`;

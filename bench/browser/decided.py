@@ -14,6 +14,8 @@ from round import round_told, serves
 PAIRINGS = 'board,white,black,times,start\n1,ann,bob,20,\n2,cid,dee,300,\n'
 # Black's knight never mates a king that has a queen alone.
 KNIGHT = '8/8/4k3/8/8/2n5/8/4KQ2 w - - 0 1'
+AS_PLAYED = '''const form = document.querySelector('#decide-form'); form.elements.result.value = 'as-played';
+    form.dispatchEvent(new Event('input'))'''
 # A sum, as a log's last line has one.
 SUM = 'fb7bbecde876abfd2185952b538e06f413603fdea5cff2456fe908fa433cdf16'
 KEPT = '''[Event "Club night"]
@@ -36,7 +38,10 @@ def decides(hall, number, told, **wanted):
     """It is decided: every page is told this, and the last line of the round's decisions says so."""
     hall.sue.click('#decide-it').loses('#decide-dialog', 'it is decided')
     for person in (hall.bob, hall.sue):
-        person.reads('#decided-words', told).click('#hide-decided').loses('#decided', 'that is hidden')
+        person.reads('#decided-words', told)
+        if not person.sees('#hide-decided'):
+            person.click('#telling-opens')
+        person.click('#hide-decided').loses('#decided', 'that is hidden')
     with open(os.path.join(hall.lobby.folder, 'round%d.decisions' % number), encoding='utf-8') as file:
         line = json.loads(file.readlines()[-1])
     hall.sue.is_so({name: line[name] for name in wanted} == wanted, 'which is put down: %s' % line)
@@ -68,6 +73,10 @@ def shows_decided(hall, number, ended):
     bob.goes('').shows('[data-key="look-%s"] .state' % number, '½–½', 'so does the table')
     bob.goes('game/' + number).reads('#outcome', '½–½  Draw by the arbiter’s decision', '6.9, Black cannot mate',
                                      'The server says 0–1: %s.' % ended)
+    bob.reads('#defaulted-words', 'Board 2 of round 2, Bob', '+ –. Who does not come in time loses')
+    bob.goes('').click('#hide-defaulted').loses('#defaulted', 'that is hidden')
+    bob.reload().finds('#to-round', 'the page anew').lacks('#defaulted', 'and told no more')
+    bob.goes('game/' + number)
     for side in ('white', 'black'):
         bob.shows('.player.%s .score' % side, '½', 'the score of ' + side)
     well_on_screens(bob, 'a game that was decided')
@@ -75,13 +84,15 @@ def shows_decided(hall, number, ended):
 
 def a_decision(hall):
     """The desk decides a board: of a game that ended by a flag, with a draw where the winner's men never mate, of one
-    whose player has not come, which waits once the default time is over, and of one that has left the table. Where it
-    is not put down, it says so."""
+    whose player has not come, which waits once the default time is over, and of one that has left the table; and takes a
+    decision back. Where it is not put down, it says so."""
     _, bob, sue = hall.sit()
     lost, drawn = paired(hall, 'ann', 'bob', '20 0'), paired(hall, 'ann', 'bob', '20 0 ' + KNIGHT)
     entered(hall, 'as ann move %s 0 e2e4' % lost, 'as bob move %s 1 e7e5' % lost, 'as ann move %s 0 f1f2' % drawn,
             'as bob move %s 1 e6d6' % drawn)
-    serves(hall, json.dumps(round_told(drawn)))
+    told = round_told(drawn)
+    told['rounds'][1][0] |= {'white': 1, 'black': 2}
+    serves(hall, json.dumps(told))
     for number in (1, 2):
         put(os.path.join(hall.lobby.folder, 'round%d.csv' % number), PAIRINGS)
     hall.signs_in(sue, 'eve', 'an arbiter')
@@ -99,12 +110,20 @@ def a_decision(hall):
     sue.until(lambda: (value(sue, 'round'), value(sue, 'board'), value(sue, 'result')) == ('2', '1', '1/2-1/2'),
               'board and result are filled in')
     well_on_screens(sue, 'the decision')
+    sue.type('#decide-form [name=board]', '2').reads('#decide-board', 'Board 2 of round 2 is of Bob', 'not of these two')
+    sue.click('#decide-it').reads('#arbiter-dialog', 'about that board all the same', 'Board 2 of round 2 is of Bob')
+    sue.click('#arbiter-dialog [value=no]').is_so(sue.sent('decide ') == [], 'nothing is decided about other players')
     sue.type('#decide-form [name=board]', '7').click('#decide-it')
     sue.reads('#decide-told', 'could not be put down').type('#decide-form [name=board]', '1')
-    decides(hall, 2, 'The arbiter has decided board 1 of round 2: ½–½. Why: 6.9, Black cannot mate', board=1,
-            result='1/2-1/2', white='ann', black='bob', article='6.9', arbiter='Eve Arbiter',
+    decides(hall, 2, 'The arbiter has decided board 1 of round 2, Ann Lee – Bob <b>Stone</b> & Sons: ½–½. Why: 6.9, Black '
+            'cannot mate', board=1, result='1/2-1/2', white='ann', black='bob', article='6.9', arbiter='Eve Arbiter',
             reason='Black cannot mate by any legal moves')
     shows_decided(hall, drawn, 'Black wins on time')
+    sue.click(on_card(drawn, '[data-key^=decide-]')).type('#decide-form [name=reason]', 'it was another board')
+    sue.run(AS_PLAYED)
+    decides(hall, 2, 'The arbiter has decided board 1 of round 2, Ann Lee – Bob <b>Stone</b> & Sons: as it was played. Why: '
+            '6.9, it was another board', board=1, result='as-played')
+    sue.shows(on_card(drawn, '.desk-state'), '0–1 Black wins on time', 'the server’s result counts again')
     here = paired(hall, 'ann', 'cid', '300 0')
     sue.click(on_card(here, '[data-key^=decide-]')).reads('#decide-stands', 'White has not made a move')
     sue.is_so(value(sue, 'result') == '+/-', 'White sits there').click('#decide-leave')
@@ -132,10 +151,11 @@ def a_decision(hall):
     entered(hall, 'as ann resign ' + here)
     sue.reload().finds('.wait.late', 'the time is kept', patience=90)
     sue.click('#waits-list [data-key="show-%s-late"]' % absent)
+    sue.until(lambda: re.search('the clocks have run for [1-9]', sue.text('#decide-stands')), 'the time is the true one')
     sue.is_so(value(sue, 'result') == '+/-', 'White has come').type('#decide-form [name=round]', '1')
     sue.type('#decide-form [name=board]', '2').type('#decide-form [name=reason]', 'Dee’s train, "late", cost $1')
-    decides(hall, 1, 'The arbiter has decided board 2 of round 1: +/-. Why: 6.7, Dee\'s train, "late", cost $1', board=2,
-            result='+/-', article='6.7', reason='Dee\'s train, "late", cost $1')
+    decides(hall, 1, 'The arbiter has decided board 2 of round 1, Cid Okonkwo – Dee van der Meer: + –. Why: 6.7, Dee\'s '
+            'train, "late", cost $1', board=2, result='+/-', article='6.7', reason='Dee\'s train, "late", cost $1')
     sue.loses('.wait.late', 'the game has ended').reads(on_card(absent, '.desk-state'), 'White wins by resignation')
     runs = paired(hall, 'ann', 'dee', '300 0')
     entered(hall, 'as ann move %s 0 e2e4' % runs, 'as dee move %s 1 e7e5' % runs)
@@ -143,6 +163,15 @@ def a_decision(hall):
     put(hall.lobby.kept, KEPT)
     for number, told in ((runs, 'Game %s goes on' % runs), ('4000000001', 'There is no game of this number.')):
         sue.type('#decide-find [name=number]', number).click('#decide-find button').reads('#decide-found', told)
+    for board, told in (('3', 'This board has a bye.'), ('9', 'No such board was told')):
+        sue.type('#decide-board-find [name=round]', '1').type('#decide-board-find [name=board]', board)
+        sue.click('#decide-board-find button').reads('#decide-found', told)
+    sue.type('#decide-board-find [name=board]', '2').click('#decide-board-find button')
+    sue.reads('#decide-title', 'board 2 of round 1: Cid Okonkwo – Dee').reads('#decide-stands', 'No game is known')
+    sue.run('''document.querySelector('#decide-form').elements.result.value = '0-1' ''')
+    sue.type('#decide-form [name=reason]', 'as both signed it')
+    decides(hall, 1, 'The arbiter has decided board 2 of round 1, Cid Okonkwo – Dee van der Meer: 0–1. Why: as both signed '
+            'it', board=2, result='0-1')
     sue.type('#decide-find [name=number]', '4000000077').click('#decide-find button')
     sue.reads('#decide-stands', 'The server says 1–0: White wins by resignation.')
     sue.is_so(value(sue, 'result') == '', 'nothing is likely there').click('#decide-leave')

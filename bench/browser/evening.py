@@ -12,7 +12,7 @@ from lib.net import Door
 from lib.program import content, laid_out, path_of, put
 from lib.web import Guest
 from page_lines import by_lines, truth
-from readable import COORDINATES, on_screens, reads_well, well_on_screens
+from readable import COORDINATES, SIDEWAYS, keys_go_round, on_screens, reads_well, well_on_screens
 
 FOOLS = ['f2f3', 'e7e5', 'g2g4', 'd8h4']
 ROOK_AND_KING = '4k3/8/8/8/8/8/8/R3K3 w - - 0 1'
@@ -35,7 +35,7 @@ def no_dead_buttons(hall):
     ann.until(lambda: ann.sees('#again') and ann.find('#again').is_enabled(), 'the game is shown again')
     ann.click('#again').reads('#challenges', 'You offer Bob')
     bob.reads('#challenges', 'Ann Lee offers you a game, 20+3: you are White')
-    bob.click('#challenges .banner button.strong').until(lambda: not bob.driver.current_url.endswith('/' + number),
+    bob.click('#telling-opens', '#challenges .banner button.strong').until(lambda: not bob.driver.current_url.endswith('/' + number),
                                                          'another game is there')
     ann.reads('#outcome', 'Waiting for your opponent')
     ann.is_quiet()
@@ -53,7 +53,7 @@ def handy_moves(hall):
     ann.on_move()
     ann.tap('g1', 'f1').is_so(ann.lit('.held') == {'f1'}, 'where the king cannot castle the rook is taken')
     ann.tap('a5')
-    bob.click('#offer')
+    bob.asked('#offer')
     ann.until(lambda: ann.driver.title.startswith('Draw offered:'), 'the tab says so')
     ann.click('#decline').until(lambda: ann.driver.title.startswith('Your turn:'), 'and whose turn it is')
     hall.open(minutes='20')
@@ -178,7 +178,7 @@ def heard_tones(hall):
     ann.until(lambda: tones() == [320, 210], 'and a capture')
     hall.play(['d8d5', 'h2h3', 'd5e5'], 3)
     ann.until(lambda: tones() == [210, 320, 320, 640], 'a check')
-    bob.click('#offer')
+    bob.asked('#offer')
     ann.until(lambda: tones() == [440, 550], 'an offer')
     ann.click('#sound').has('#sound[aria-pressed=false]', 'off by one click')
     ann.run('tones.length = 0')
@@ -377,11 +377,20 @@ ROOM = '''const [list, row] = ['#moves', '#moves li'].map((css) => document.quer
   return list.height / row.height;'''
 
 
+# Squares and what is pressed, whose middles are in sight and belong to something else.
+COVERED = '''const press = '#board [data-square], .game-view button, .game-view input, .top a, .top summary, .top button';
+  return [...document.querySelectorAll(press)].filter((e) => {
+    const { x, y, width, height } = e.getBoundingClientRect();
+    const there = width && e.checkVisibility({ contentVisibilityAuto: true }) && document.elementFromPoint(x + width / 2, y + height / 2);
+    return there && !e.contains(there) && !there.contains(e) && !there.closest('#board');
+  }).map((e) => e.id || e.dataset.square || e.textContent)'''
+
+
 def room_for_all(hall):
     """Screens of seven sizes: nothing lies over anything, the list of moves has room, the board is in sight."""
     number, ann, bob, sue = hall.begin(minutes='90', increment='30', second=('40', '30'))
     hall.play(['e2e4', 'e7e5', 'g1f3', 'b8c6', 'f1b5', 'a7a6', 'b5c6', 'd7c6', 'e1g1', 'f7f6'])
-    bob.click('#offer')
+    bob.asked('#offer')
     ann.finds('#offered', 'an offer')
     for person in (ann, bob, sue):
         for what, _, height, phone in on_screens(person, person.name):
@@ -395,6 +404,69 @@ def room_for_all(hall):
     ann.click('#accept')
     bob.reads('#outcome', 'Draw by agreement')
     hall.watch(number)
+
+
+# What of these is not in sight as a whole, on a screen that was not scrolled.
+BEYOND = '''return arguments[0].filter((css) => { const box = document.querySelector(css).getBoundingClientRect();
+    return !box.height || Math.min(box.top, box.left) < -1 || box.bottom > innerHeight + 1
+      || box.right > innerWidth + 1; });'''
+# Of each player what lies over the name, and a name of which too little can be read.
+SQUEEZED = '''return ['#far', '#near'].filter((place) => {
+    const box = (part) => document.querySelector(`${place} ${part}`).getBoundingClientRect();
+    const [name, clock, below] = ['.name', '.clock', '.below'].map(box);
+    return name.right > clock.left + 1 || name.bottom > below.top + 3 || name.width < 40; });'''
+BOTH = ['#board .board', '#far .name', '#far .clock', '#near .name', '#near .clock', '#moves [aria-current]']
+ACTS = ['#offer', '#claim', '#resign']
+
+
+def is_on_its_side(person, what, *acts):
+    """On its side a phone shows the whole board, as large as it can be, both clocks, the last move, and this."""
+    for told, _, height, _ in on_screens(person, what, SIDEWAYS):
+        beyond = person.run(BEYOND, [*BOTH, *acts])
+        person.is_so(beyond == [], '%s: in sight: %s' % (told, beyond))
+        person.is_so(person.run(OVERLAPS) == [], '%s: %s' % (told, person.run(OVERLAPS)))
+        person.is_so(person.run(SQUEEZED) == [], '%s: names: %s' % (told, person.run(SQUEEZED)))
+        least = 0.66 if person.sees('#linked') else 0.84
+        person.is_so(person.box('#board .board')['height'] >= least * height, '%s: the board is large' % told)
+    return person
+
+
+def a_phone_on_its_side(hall):
+    """A phone on its side, in a game: the whole board, both clocks, the moves and what can be done are in sight, for
+    who plays and who watches, where a draw is offered, behind the end, and in every language; a finger plays there."""
+    number, ann, bob, sue = hall.begin(minutes='90', increment='30', second=('40', '30'))
+    hall.play(['e2e4', 'e7e5', 'g1f3', 'b8c6', 'f1b5', 'a7a6', 'b5c6', 'd7c6', 'e1g1'])
+    for person in (ann, bob, sue):
+        is_on_its_side(person, person.name, *ACTS if person is not sue else ())
+    bob.screen(*SIDEWAYS[0][:2], 1, True)
+    time.sleep(0.3)
+    bob.touch('f7').until(lambda: bob.lit() == {'f6', 'f5'}, 'a touch takes a man')
+    bob.touch('f6')
+    ann.until(lambda: len(ann.moves()) == 10, 'and puts it down')
+    bob.click('#offer')
+    ann.finds('#offered', 'an offer')
+    is_on_its_side(ann, 'an offer', '#accept', '#decline', '#resign')
+    for width, height, phone in SIDEWAYS[::2]:
+        ann.screen(width, height, 1, phone)
+        time.sleep(0.3)
+        reads_well(ann, 'an offer, %d x %d' % (width, height))
+    keys_go_round(ann, 'a phone on its side')
+    ann.click('#decline')
+    for language in in_languages(ann):
+        ann.reload().finds('#resign', 'the game in ' + language).finds('#moves [aria-current]', 'its moves')
+        ann.is_so(ann.run('return document.documentElement.lang') == language, language)
+        is_on_its_side(ann, language, *ACTS)
+    ann.asked('#resign')
+    ann.reads('#outcome', 'Black wins by resignation')
+    is_on_its_side(ann, 'behind the end', '#outcome')
+    for view, css in (('again/' + number, '#again-board .board'), ('', '#over-list'), ('games', '#finished-save'),
+                      ('hall', '#hall-none'), ('round', '#round-none')):
+        ann.goes(view).finds(css, view)
+        for told, *_ in on_screens(ann, view, SIDEWAYS):
+            if view.startswith('again'):
+                beyond = ann.run(BEYOND, [css, '#again-next'])
+                ann.is_so(beyond == [], '%s: in sight: %s' % (told, beyond))
+    ann.is_quiet()
 
 
 def read_by_all(hall):
@@ -426,9 +498,10 @@ def read_by_all(hall):
     well(ann, 'a move ahead')
     ann.tap('a5').until(lambda: not planned(ann), 'taken back')
     other = by_lines(hall, 'eve', 'pair ann cid 1200 0')[0].split(' ')[2]
-    well(ann, 'another game of one’s own', '#invited')
+    ann.reads('#telling-words', 'Your game %s against' % other)
+    well(ann, 'another game of one’s own', '#telling.urgent')
     by_lines(hall, 'eve', 'as cid resign ' + other)
-    bob.click('#offer')
+    bob.asked('#offer')
     well(ann, 'an offer', '#offered')
     hall.play(['b8c6'], 3)
     for button, part in (('#resign', '#resign-dialog'), ('#claim', '#claim-dialog'), ('#help', '#help-dialog'),
@@ -578,20 +651,22 @@ def the_board_stays(hall):
     carl.ask('pair cid ann 1200 0')
     ann.reads('#challenges', 'offers you a game')
     ann.is_so([person.run(place) for person in (ann, bob)] == stood, 'each board is where it was')
-    well_on_screens(ann, 'news over a game', '.news .banner')
-    ann.screen(360, 740, 1, True)
-    covered = '''return [...document.querySelectorAll('.top nav a, .top summary, .tools > button')].filter((e) => {
-        const { x, y, width, height } = e.getBoundingClientRect();
-        return width && !e.contains(document.elementFromPoint(x + width / 2, y + height / 2)); }).map((e) => e.id)'''
-    ann.until(lambda: ann.run(covered) == [], 'on a phone it leaves the head free')
-    ann.screen(1280, 800)
+    well_on_screens(ann, 'news over a game', '#telling')
+    for width, height in ((1280, 800), (1024, 768), (900, 700), (768, 1024), (360, 740), (640, 360)):
+        ann.screen(width, height, 1, width < 720 or height > width)
+        time.sleep(0.3)
+        ann.is_so(ann.run(COVERED) == [], '%d x %d: it covers nothing: %s' % (width, height, ann.run(COVERED)))
+        line = ann.box('#telling')
+        ann.is_so(line['width'] > 100 and line['height'] < 40, '%d x %d: one line: %s' % (width, height, line))
+    ann.screen(1280, 800).click('#telling-opens')
+    well_on_screens(ann, 'the news, opened', '.news .banner')
     here = ann.driver.current_url
     ann.click('#challenges .strong').reads('#challenges', 'Another game of yours goes on')
     ann.is_so(ann.driver.current_url == here, 'nothing has begun')
     ann.click('#challenges .strong').until(lambda: ann.driver.current_url != here, 'the other game begins')
     ann.reads('#invited', 'Your game %s against' % number, 'goes on')
     second = ann.driver.current_url.rsplit('/', 1)[1]
-    ann.click('#invited a').until(lambda: ann.driver.current_url == here, 'the way to it')
+    ann.click('#telling-opens', '#invited a').until(lambda: ann.driver.current_url == here, 'the way to it')
     ann.reads('#invited', 'Your game %s against' % second, 'goes on')
     by_lines(hall, 'ann', 'resign ' + second)
     ann.loses('#invited', 'that is told until it has ended')
@@ -684,7 +759,8 @@ def looked_at_again(hall):
     hall.play(FOOLS)
     ann.click('#look-again').shows('#again-moves', '1.f3e52.g4Qh4#', 'its moves')
     ann.board = '#again-board'
-    ann.click('#again-next').until(lambda: ann.men().get('f3') == 'white pawn', 'a move on')
+    ann.until(lambda: ann.men().get('h4') == 'black queen', 'it is opened where it stood')
+    ann.click('#again-first', '#again-next').until(lambda: ann.men().get('f3') == 'white pawn', 'a move on')
     ann.tap('e7').is_so(ann.lit() == {'e6', 'e5'}, 'the pawn’s two squares')
     fen = 'rnbqkbnr/pppppppp/8/8/8/5P2/PPPPP1PP/RNBQKBNR b KQkq - 0 1'
     ann.until(lambda: 'moves ' + fen in ann.sent('moves '), 'who has signed in is told the moves by the lobby')
@@ -813,5 +889,5 @@ def the_first_minutes(hall):
 
 
 EVENING = (no_dead_buttons, handy_moves, full_names, planned_moves, asked_first, heard_tones, own_marks, taken_men,
-           boards_and_men, told_elsewhere, slow_answers, foreign_links, room_for_all, read_by_all, in_german,
-           in_every_language, the_board_stays, offers_end, a_killed_browser, looked_at_again, the_first_minutes)
+           boards_and_men, told_elsewhere, slow_answers, foreign_links, room_for_all, a_phone_on_its_side, read_by_all,
+           in_german, in_every_language, the_board_stays, offers_end, a_killed_browser, looked_at_again, the_first_minutes)

@@ -6,6 +6,8 @@ from lib.browser import Keys
 
 SCREENS = ((1280, 800, False), (1024, 768, False), (1080, 810, False), (900, 700, False), (1024, 600, False),
            (768, 1024, True), (360, 740, True))
+# A phone on its side.
+SIDEWAYS = ((640, 360, True), (740, 360, True), (844, 390, True), (568, 320, True))
 LIGHT = '''const light = (text) => { const [r, g, b] = text.match(/[\\d.]+/g).map((n) => { const c = n / 255;
     return c <= 0.03928 ? c / 12.92 : ((c + 0.055) / 1.055) ** 2.4; }); return 0.2126 * r + 0.7152 * g + 0.0722 * b; };
   const ratio = (a, b) => { const [x, y] = [light(a), light(b)].sort((one, other) => one - other);
@@ -117,10 +119,10 @@ def reads_well(person, what, scripts=(PALE, NAMELESS, TWICE, STUMBLES, MISPLACED
     return person
 
 
-def on_screens(person, what):
+def on_screens(person, what, screens=SCREENS):
     """Each screen: what is looked at there, its width and height, and whether it is a phone's. Nothing may be beyond
     its side."""
-    for width, height, phone in SCREENS:
+    for width, height, phone in screens:
         person.screen(width, height, 1, phone)
         time.sleep(0.3)
         told = '%s, %d x %d' % (what, width, height)

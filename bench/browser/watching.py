@@ -11,7 +11,8 @@ import time
 from evening import ELSEWHERE, LOOKS, in_languages, is_in
 from finished import kept_pgn
 from lib.program import PAGE
-from readable import reads_well
+from readable import SIDEWAYS, on_screens, reads_well, well_on_screens
+from round import round_told
 
 START = 'rnbqkbnr/pppppppp/8/8/8/8/PPPPPPPP/RNBQKBNR w KQkq - 0 1'
 MOVES = (('e4', 'e2e4', 'rnbqkbnr/pppppppp/8/8/4P3/8/PPPP1PPP/RNBQKBNR b KQkq - 0 1'),
@@ -160,9 +161,9 @@ def comes(sue, shown, path=''):
     return sue
 
 
-def is_quiet(sue):
-    """The console says nothing, but that a file is not there."""
-    complaints = [one for one in sue.complaints() if '404' not in one]
+def is_quiet(sue, *but):
+    """The console says nothing, but that a file is not there, or that it was answered so."""
+    complaints = [one for one in sue.complaints() if not any(status in one for status in ('404', *but))]
     sue.is_so(complaints == [], 'the console is quiet: %s' % complaints)
 
 
@@ -243,15 +244,83 @@ def the_hall_by_files(sue, shown):
     sue.is_so('WIM 2103' in sue.run(ranks % '#hall-boards'), 'with titles and ratings')
     sue.until(lambda: sorted(sue.run('return [...document.querySelectorAll(".card-last")].map((e) => e.textContent)'))
               == ['', 'e5'], 'with their last moves')
+    for width, height in ((1280, 800), (1024, 768)):
+        sue.screen(width, height)
+        sue.until(lambda: sue.box('.hall-tools')['bottom'] <= height, 'what is below the boards is in sight')
+    sue.screen(1280, 800)
     shown.has(7, 3)
     sue.until(lambda: 'Bc4' in sue.text('#hall-boards'), 'a move in the hall')
     shown.has(7, 3, result='0-1', article='5.1.2')
     sue.until(lambda: '0–1 by resignation' in sue.text('#hall-boards'), 'an end in the hall')
     begun = time.monotonic()
     time.sleep(7)
-    asked = [(path, status) for at, path, status in shown.asked if at >= begun]
+    asked = [(path, status) for at, path, status in shown.asked if at >= begun and 'game' in path]
     sue.is_so(set(asked) <= {('/games.json', 304)} and 2 <= len(asked) <= 5, 'one file, every two seconds: %s' % asked)
     sue.is_so(sue.run(SOCKETS) == 0, 'no socket was opened')
+    is_quiet(sue)
+
+
+LAST = 'return [...document.querySelectorAll("#over-list .pairing")].map((e) => e.hash.split("/")[2])'
+STATE = 'return document.querySelector(`#over-list a[href="#/game/${arguments[0]}"] .state`).textContent'
+
+
+def decided(**results):
+    """A round's file by which the games of these two boards have these results."""
+    told = round_told(8)
+    told['rounds'][0][0] |= {'game': 7, 'result': results.get('first', '*')}
+    told['rounds'][1][0]['result'] = results.get('second', '*')
+    return json.dumps(told)
+
+
+@watching
+def the_last_games(sue, shown):
+    """The first page has the ten games that ended last: those on the table, and behind them those that have left it, the
+    newest first, with what was decided about them; by who is looked for; and a game that leaves the table stays there."""
+    noted = '1. e4 e5\n{Eve Moss decided 1/2-1/2 (6.9)}\n0-1'
+    kept = [kept_pgn(number, 'Zoë Kept', FULL['bob'], '2026.11.27', '0-1', '6.9',
+                     noted if number == 50 else '1. e4 e5 0-1') for number in range(51, 39, -1)]
+    shown.files['/kept.pgn'] = ''.join(kept)
+    shown.has(8, 7, 'cid', 'dee', result='1-0', article='5.1.1')
+    shown.has(9, 7, 'ann', 'dee', result='1-0', article='5.1.1')
+    comes(sue, shown).until(lambda: sue.run(LAST) == ['9', '8', *map(str, range(51, 43, -1))], 'the last ten')
+    states = [sue.run(STATE, number) for number in (8, 51, 50)]
+    sue.is_so(states == ['1–0', '0–1', '½–½'], 'what came of them: %s' % states)
+    sue.reads('#over-list', 'Zoë Kept', FULL['bob'], 'Nov 27, 2026')
+    sue.is_so(sue.text('#over-count') == '', 'no number, since these are not all')
+    sue.is_so(sue.driver.title == 'Games · Chess club', 'the title')
+    well_on_screens(sue, 'the last games')
+    for told, *_ in on_screens(sue, 'the last games', SIDEWAYS):
+        reads_well(sue, told)
+    sue.type('#find', 'okon').until(lambda: sue.run(LAST) == ['8'], 'by a part of a name')
+    sue.type('#find', 'zoë').until(lambda: sue.run(LAST) == [*map(str, range(51, 41, -1))], 'of the kept ones')
+    sue.type('#find', '').run('document.querySelector("#find").dispatchEvent(new Event("input"))')
+    kept.insert(0, kept_pgn(9, FULL['ann'], FULL['dee'], '2026.11.28', '1-0', '5.1.1', '1. e4 e5 1-0'))
+    shown.files['/kept.pgn'] = ''.join(kept)
+    shown.games.pop(9)
+    shown.put()
+    sue.until(lambda: sue.run(LAST) == ['8', '9', *map(str, range(51, 43, -1))], 'one has left the table')
+    sue.click('#over-list a[href="#/game/51"]').reads('#game-title', 'Game 51').goes('')
+    sue.click('.finished a[href="#/games"]').shows('#finished-title', 'Finished games', 'the way to all')
+    is_quiet(sue)
+
+
+@watching
+def decisions_by_files(sue, shown):
+    """What an arbiter has decided comes to who looks on, on the first page, in the hall, and on a screen of one game."""
+    shown.has(7, 2)
+    shown.has(8, 7, 'cid', 'dee', result='1-0', article='5.1.1')
+    comes(sue, shown).until(lambda: sue.run(STATE, 8) == '1–0', 'what the server says')
+    shown.files['/round.json'] = decided(first='1/2-1/2', second='1/2-1/2')
+    sue.until(lambda: sue.run(STATE, 8) == '½–½', 'and what was decided', 90)
+    sue.goes('hall').finds('.card .board', 'the hall')
+    shown.has(7, 2, result='0-1', article='6.9')
+    card = 'return document.querySelector(".card-last").textContent'
+    sue.until(lambda: sue.run(card) == '½–½ Draw by the arbiter’s decision', 'what was decided, in the hall')
+    sue.go(shown.address + 'board/7')
+    sue.shows('.screen-outcome', '½–½ Draw by the arbiter’s decision', 'on a screen of one game')
+    shown.files['/round.json'] = decided(first='1-0')
+    sue.shows('.screen-outcome', '1–0 White wins by the arbiter’s decision', 'decided anew', 90)
+    reads_well(sue, 'a screen')
     is_quiet(sue)
 
 
@@ -295,6 +364,7 @@ def more_than_are_served(sue, shown):
     shown.later = 0
     shown.has(7, 4)
     sue.loses('#lost', 'it is back', 15).moved(SANS[:4], 'and the game goes on')
+    is_quiet(sue, '503')
 
 
 @watching
@@ -417,5 +487,5 @@ def an_announcement_by_files(sue, shown):
     is_quiet(sue)
 
 
-WATCHING = (a_game_by_files, the_hall_by_files, an_announcement_by_files, the_files_away, more_than_are_served,
-            a_hidden_tab, a_game_not_there, files_on_a_phone, a_screen_by_files)
+WATCHING = (a_game_by_files, the_hall_by_files, the_last_games, decisions_by_files, an_announcement_by_files,
+            the_files_away, more_than_are_served, a_hidden_tab, a_game_not_there, files_on_a_phone, a_screen_by_files)

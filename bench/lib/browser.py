@@ -225,11 +225,11 @@ class Person:
 
     def complaints(self):
         """What the browser's console says is wrong, as a breach of the policy or an error of a script; not that who is
-        asked is away, or that a game has no file so far."""
+        asked is away, or that there is no file so far, as where a lobby has just begun."""
         return [entry['message'] for entry in self.driver.get_log('browser')
                 if entry['level'] == 'SEVERE' and 'WebSocket connection to' not in entry['message']
                 and not re.search('ERR_(CONNECTION_(REFUSED|RESET)|EMPTY_RESPONSE)', entry['message'])
-                and not re.search(r'/games/\d+\.json - .* 404 ', entry['message'])]
+                and not re.search(r'/(games/\d+\.json|round\.json|kept\.pgn) - .* 404 ', entry['message'])]
 
     def is_quiet(self):
         complaints = self.complaints()

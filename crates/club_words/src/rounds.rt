@@ -65,11 +65,12 @@ prints
 const HELP_OF_DECIDE: &str = "\
 It puts an arbiter's decision about a board of --pairings behind the others of --decisions,
 a file that is made where there is none. The last decision about a board counts, in place of
-what the server says, for results and trf that are given this file; nothing is taken back.
+what the server says, for results, trf and standings that are given this file.
 
 The result is 1-0, 0-1, 1/2-1/2, 1/2-0 or 0-1/2 (half a point for one alone), 0-0 (both have
 lost), or of who did not come +/-, -/+ or -/-, with a sign of equality before the last two:
---result=-/+.
+--result=-/+; W/L, L/W or D/D of a game that is not rated, since not both sides made a move; or
+as-played, by which what was decided before counts no more, and what the server says does again.
 
 Exit status: 0; 1 with what is wrong on standard error; 2 for words that the program does
 not know.
@@ -86,9 +87,10 @@ and points. Players are numbered by their place in the players' file; by --parti
 has their ratings, titles, federations, teams and more, by rating, title and full name; they
 are ranked as by standings. Asked for results are the archive, where --archive names one, and
 then the server, where --server does; the last decision of an arbiter about a board counts in
-their place. Where a game is of others than its board's players it writes nothing, and ends with
-status 1; where a board has no result yet, a line of the archive is no game's or the server is
-away, that status is behind the report.
+their place. Without --rounds it has the players alone, for a program that pairs round 1. Where a
+game is of others than its board's players it writes nothing, and ends with status 1; where a
+board has no result yet, a line of the archive is no game's or the server is away, that status is
+behind the report.
 
 Exit status: 0; 1 with what is wrong on standard error; 2 for words that the program does
 not know.
@@ -153,7 +155,7 @@ const BOARD: OptionText = OptionText {
 const RESULT: OptionText = OptionText {
     name: "result",
     value: OptionValue::Text("RESULT"),
-    help: "1-0, 0-1, 1/2-1/2, 1/2-0, 0-1/2, 0-0, +/-, -/+ or -/-",
+    help: "1-0, 0-1, 1/2-1/2, 1/2-0, 0-1/2, 0-0, +/-, -/+, -/-, W/L, L/W, D/D or as-played",
     is_required: true,
 };
 
@@ -225,7 +227,7 @@ const ROUNDS: OptionText = OptionText {
     name: "rounds",
     value: OptionValue::Texts("CSV,GAMES"),
     help: "A round's files, behind them ,DECISIONS where there are any; once for each round, in their order",
-    is_required: true,
+    is_required: false,
 };
 
 const ARCHIVE_IF_ANY: OptionText = OptionText {
@@ -462,14 +464,14 @@ fn round_of<'a>(values: &ArgMatches<'a>) -> Option<Round<'a>> {
     })
 }
 
-// Where results are looked for; none where an address is none, or there is no place.
-fn source_of<'a>(values: &ArgMatches<'a>) -> Option<Source<'a>> {
+// Where results are looked for; none where an address is none, or there is no place though one is needed.
+fn source_of<'a>(values: &ArgMatches<'a>, is_needed: bool) -> Option<Source<'a>> {
     let archive = values.get_str("archive");
     let server = match values.get_str("server") {
         Some(_) => Some(server_named(values)?),
         None => None,
     };
-    if archive.is_none() && server.is_none() {
+    if is_needed && archive.is_none() && server.is_none() {
         return None;
     }
     Some(Source { archive, server })
@@ -477,7 +479,7 @@ fn source_of<'a>(values: &ArgMatches<'a>) -> Option<Source<'a>> {
 
 /// What `results` asks for; none where an address is none, or there is no place to look.
 pub fn asking_of<'a>(values: &ArgMatches<'a>) -> Option<Asking<'a>> {
-    let (Some(round), Some(source)) = (round_of(values), source_of(values)) else {
+    let (Some(round), Some(source)) = (round_of(values), source_of(values, true)) else {
         return None;
     };
     Some(Asking {
@@ -620,19 +622,20 @@ pub fn rounds_of<'a>(
     all_of(alloc, values, "rounds", files_of)
 }
 
-/// The tournament that is asked for; none where an address, a number or a round's files are none.
+/// The tournament that is asked for; none where an address, a number or a round's files are none, or there are rounds
+/// and no place to look for their results.
 fn reporting_of<'a>(
     alloc: Global,
     values: &ArgMatches<'a>,
 ) -> Result<Option<Reporting<'a>>, AllocError> {
-    let (Some(players), Some(source), Some(tournament)) = (
-        values.get_str("players"),
-        source_of(values),
-        tournament_of(values),
-    ) else {
+    let Some(rounds) = rounds_of(alloc, values)? else {
         return Ok(None);
     };
-    let Some(rounds) = rounds_of(alloc, values)? else {
+    let (Some(players), Some(source), Some(tournament)) = (
+        values.get_str("players"),
+        source_of(values, !rounds.is_empty()),
+        tournament_of(values),
+    ) else {
         return Ok(None);
     };
     let Some(days) = all_of(alloc, values, "round-date", |day| Some(day))? else {

@@ -10,7 +10,7 @@ use lobby_words::NameForm;
 use night_boards::{Paired, Round, paired_of};
 use night_games::BoardGame;
 use night_outcomes::{decisions_of, noted_game};
-use night_rounds::{Decision, Ground, Verdict, last_about, verdict_text};
+use night_rounds::{Decision, Ground, Verdict, decision_about, verdict_text};
 use std::alloc::{AllocError, Global};
 use std::rt::Files;
 
@@ -83,7 +83,7 @@ fn push_round(
     for pairing in paired.pairings.as_slice() {
         let board = pairing.board;
         if let Some(game) = noted_game(paired.notes.as_slice(), board) {
-            let decision = told_if(alloc, form, last_about(decisions, board))?;
+            let decision = told_if(alloc, form, decision_about(decisions, board))?;
             games.push(BoardGame {
                 game,
                 round,

@@ -2,6 +2,7 @@
 //! the opponent cannot mate (FIDE articles 6.9 and 5.1.2), and a position in which nobody can mate (5.2.2). It decides
 //! nothing: an arbiter does.
 use crate::outcomes::Ended;
+use crate::tags::tags_in;
 use chess_bits::Colour;
 use chess_board::{Board, Move};
 use chess_fen::fen_read;
@@ -44,8 +45,12 @@ fn board_in(lines: &str) -> Option<Board> {
     fen_read(fen).ok()
 }
 
-// The board behind the last move of a PGN.
+// The board behind the last move of a PGN. None where not both sides made a move, from the initial position on: whoever
+// could mate, such a game is lost by who did not come (6.7), or is not rated, and one that goes on is not dead.
 fn last_board(alloc: Global, pgn: &str) -> Result<Option<Board>, AllocError> {
+    if !tags_in(alloc, pgn)?.is_played() {
+        return Ok(None);
+    }
     match line_answer(alloc, 0, pgn)? {
         Some(answer) => Ok(board_in(answer.as_str().trim_end())),
         None => Ok(None),
@@ -128,7 +133,7 @@ pub fn is_asked(ended: &Ended) -> bool {
 }
 
 /// What the Laws ask of a game that was won on time or by a resignation, and what was found out; of one that goes on,
-/// where neither side can mate. None else, and where the PGN has no game.
+/// where neither side can mate. None else, where not both sides made a move in it, and where the PGN has no game.
 pub fn law_of(
     alloc: Global,
     game: u32,

@@ -8,7 +8,9 @@ use command_lines::tell;
 use lobby_players::full_name;
 use lobby_words::Player;
 use night_links::{Answer, Link, refused};
-use night_rounds::{Against, Decision, Note, Pairing, game_in, last_about, last_of, verdict_text};
+use night_rounds::{
+    Against, Decision, Note, Pairing, decision_about, game_in, last_of, verdict_text,
+};
 use player_name::Name;
 use server_answers::{Ending, Refusal, Seats, Shown, refusal_of, result_text, shown_of};
 use sockets::ServerAddress;
@@ -492,7 +494,7 @@ impl<'a> Outcomes<'a> {
         found: &Found,
         half: &Option<String>,
     ) -> Result<(), AllocError> {
-        match last_about(boards.decisions, board) {
+        match decision_about(boards.decisions, board) {
             Some(decision) => self.put_decision(boards.file, decision, found),
             None => {
                 self.has_others = self.has_others || matches!(found, Found::Others(_));
@@ -508,7 +510,7 @@ impl<'a> Outcomes<'a> {
         let game = noted_game(boards.notes, board);
         let half = self.half_of(board, game)?;
         self.put_words(boards, board, &found, &half)?;
-        let is_decided = last_about(boards.decisions, board).is_some();
+        let is_decided = decision_about(boards.decisions, board).is_some();
         let why = self.note_of(game, &found, is_decided)?;
         let note = joined(self.alloc, why.as_str(), half)?;
         self.put_word(boards.file, board, note.as_str())?;

@@ -4,24 +4,19 @@ use std::alloc::{AllocError, Global};
 use text_parts::parts;
 use text_pgn::{is_move, is_tag, value_in};
 
-// How many of these words are moves.
-fn moves_among(words: &[&str]) -> u32 {
-    let mut moves: u32 = 0;
-    for word in words {
-        if is_move(word) {
-            moves = moves.saturating_add(1);
-        }
-    }
-    moves
-}
-
 // How many moves stand in a line that is no tag's.
 fn moves_in(alloc: Global, line: &str) -> Result<u32, AllocError> {
     if is_tag(line) {
         return Ok(0);
     }
     let words = parts(alloc, line, ' ')?;
-    Ok(moves_among(words.as_slice()))
+    let mut moves: u32 = 0;
+    for word in words.as_slice() {
+        if is_move(word) {
+            moves = moves.saturating_add(1);
+        }
+    }
+    Ok(moves)
 }
 
 /// What the tags of a PGN tell, who played, from which position, what came of it and which game it continues, and how
@@ -56,12 +51,17 @@ impl<'a> PgnTags<'a> {
         }
     }
 
+    /// Whether both sides made a move in the game, or it was played on from a position.
+    pub fn is_played(self) -> bool {
+        self.plies >= 2 || !self.fen.is_empty()
+    }
+
     /// What came of the game.
     pub fn ended(self, alloc: Global) -> Result<Ended, AllocError> {
         Ok(Ended {
             result: String::from_str(alloc, self.result)?,
             article: String::from_str(alloc, self.article)?,
-            is_played: self.plies >= 2 || !self.fen.is_empty(),
+            is_played: self.is_played(),
         })
     }
 }

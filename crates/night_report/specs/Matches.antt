@@ -1,7 +1,7 @@
 -- Matches of teams. Teams are numbered from 1 on, and 0 is none; `sides` has the team of each player, by the starting
 -- numbers. A match is the boards of a round at which players of two teams meet, and its result is theirs, and that of
 -- the byes that players of these teams have: against them nobody was there. Boards stand in the order of their numbers.
-use Rattle.std.specs.Prelude.{ℕ, zero, suc, ◌+◌, ◌-◌, ◌%◌, ◌==◌, ◌&&◌, ◌||◌, not, Bool, true, false, nat_lt, nat_le}
+use Rattle.std.specs.Prelude.{ℕ, zero, suc, ◌+◌, ◌-◌, ◌==◌, ◌&&◌, ◌||◌, not, Bool, true, false, nat_lt, nat_le}
 use Rattle.std.specs.Prelude.{List, [], ◌∷◌, ◌++◌, length, map, sum_by, get_or, Option, None, Some, if◌then◌else◌}
 use Rattle.std.specs.List.{list_all, list_any}
 use Rattle.std.specs.Option.{option_to_list}
@@ -149,17 +149,6 @@ is_matched sides round m (opponents.Player n) =
     is_of sides (side sides m.white) m
     && is_against sides (side sides m.white) (side sides n) (first_of sides (side sides m.white) round)
     && is_against sides (side sides m.white) (side sides n) (first_of sides (side sides n) round)
-
--- Whether colours alternate by the numbers of the boards of a match, as FIDE's rules for teams have it: the team that
--- is named first has White at its first board, at the second behind that, and so on, also where there is no game at a
--- board between them.
-abbrev pub has_colours : List ℕ → (first one other : ℕ) → Meeting → Bool
-has_colours sides first one other m =
-    not (is_between sides one other m)
-    || (if m.board % 2 == first % 2 then side sides m.white == one else side sides m.white == other)
-
-abbrev pub alternates : List ℕ → (first one other : ℕ) → List Meeting → Bool
-alternates sides first one other round = list_all (has_colours sides first one other) round
 
 -- whether no round has more boards than there may be players
 abbrev pub are_few : List (Vec Meeting) → Bool

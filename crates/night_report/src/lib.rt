@@ -23,8 +23,7 @@ pub use columns::{Fault, Tournament, report};
 pub use csv_cells::Cell;
 pub use csv_rows::{push_header, push_row};
 pub use matches::{
-    all_board_points, all_matches, alternates, are_few, board_points, is_matched, matches_in,
-    sides_of,
+    all_board_points, all_matches, are_few, board_points, is_matched, matches_in, sides_of,
 };
 pub use order::{starting_order, title_place};
 pub use particulars::Particulars;

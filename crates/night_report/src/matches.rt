@@ -307,19 +307,3 @@ pub fn is_matched(sides: &[u32], round: &[Meeting], meeting: Meeting) -> bool
         }
     }
 }
-
-/// Whether colours alternate by the numbers of the boards of a match, of which the team that is named first has White
-/// at this first board.
-pub fn alternates(sides: &[u32], first: u32, one: u32, other: u32, round: &[Meeting]) -> bool
-    ensures { result ≡ spec.alternates sides.now first one other round.now }
-{
-    round.iter().all(|meeting| {
-        let white = side(sides, meeting.white);
-        !is_between(sides, one, other, *meeting)
-            || if meeting.board % 2 == first % 2 {
-                white == one
-            } else {
-                white == other
-            }
-    })
-}

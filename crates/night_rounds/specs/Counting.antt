@@ -1,6 +1,6 @@
 -- Which decision of an arbiter counts for a board: the last one about it takes the place of those before, and of what
--- the server says.
-use Rattle.std.specs.Prelude.{ℕ, ◌==◌, List, [], ◌∷◌, Option, None, Some, if◌then◌else◌}
+-- the server says; where it says that the board has its result as it was played, none counts.
+use Rattle.std.specs.Prelude.{ℕ, ◌==◌, Bool, true, false, List, [], ◌∷◌, Option, None, Some, if◌then◌else◌}
 use Rattle.std.specs.String.{string_bytes}
 use Rattle.night_report.specs.declared.cells.Play.{Play}
 use Rattle.night_report.specs.declared.cells.Play.TheVariants as plays
@@ -19,6 +19,19 @@ last_from board (d ∷ ds) found = last_from board ds (if d.board == board then 
 
 abbrev pub last_about : ℕ → List Decision → Option Decision
 last_about board decisions = last_from board decisions None
+
+-- no result of its own: that of the game counts
+abbrev pub is_as_played : Verdict → Bool
+is_as_played verdicts.AsPlayed = true
+is_as_played _ = false
+
+abbrev pub if_counting : Option Decision → Option Decision
+if_counting None = None
+if_counting (Some d) = if is_as_played d.verdict then None else Some d
+
+-- the decision that counts for a board
+abbrev pub decision_about : ℕ → List Decision → Option Decision
+decision_about board decisions = if_counting (last_about board decisions)
 
 -- the result and the article that count, where the server tells these
 abbrev pub result_by : Option Decision → List ℕ → List ℕ
@@ -49,8 +62,12 @@ score_of verdicts.Neither = scores.Neither
 score_of verdicts.WhiteCame = scores.White
 score_of verdicts.BlackCame = scores.Black
 score_of verdicts.NobodyCame = scores.Neither
+score_of verdicts.WhiteUnrated = scores.White
+score_of verdicts.BlackUnrated = scores.Black
+score_of verdicts.DrawUnrated = scores.Draw
+score_of verdicts.AsPlayed = scores.Open
 
--- A verdict is one of a game that was played, but where somebody did not come.
+-- A verdict is one of a game that was played, but where somebody did not come, or not both sides made a move.
 abbrev pub play_of : Verdict → Play
 play_of verdicts.White = plays.Board
 play_of verdicts.Black = plays.Board
@@ -61,6 +78,10 @@ play_of verdicts.Neither = plays.Board
 play_of verdicts.WhiteCame = plays.Forfeit
 play_of verdicts.BlackCame = plays.Forfeit
 play_of verdicts.NobodyCame = plays.Forfeit
+play_of verdicts.WhiteUnrated = plays.Short
+play_of verdicts.BlackUnrated = plays.Short
+play_of verdicts.DrawUnrated = plays.Short
+play_of verdicts.AsPlayed = plays.Board
 
 abbrev pub scored_by : Option Decision → Scored → Scored
 scored_by None told = told

@@ -55,7 +55,8 @@ decided d =
       ground = grounds d.ground;
     }
 
--- White's points before Black's; of who did not come a minus
+-- White's points before Black's; of who did not come a minus, and of a game that is not rated, since not both sides made
+-- a move, the signs of a report
 abbrev pub verdict_text : Verdict → List ℕ
 verdict_text verdicts.White = codes "1-0"
 verdict_text verdicts.Black = codes "0-1"
@@ -66,6 +67,10 @@ verdict_text verdicts.Neither = codes "0-0"
 verdict_text verdicts.WhiteCame = codes "+/-"
 verdict_text verdicts.BlackCame = codes "-/+"
 verdict_text verdicts.NobodyCame = codes "-/-"
+verdict_text verdicts.WhiteUnrated = codes "W/L"
+verdict_text verdicts.BlackUnrated = codes "L/W"
+verdict_text verdicts.DrawUnrated = codes "D/D"
+verdict_text verdicts.AsPlayed = codes "as-played"
 
 unfoldable pub verdict_in : List ℕ → Option Verdict
 verdict_in text =
@@ -77,7 +82,11 @@ verdict_in text =
     else (if bytes_eq text (codes "0-0") then Some verdicts.Neither
     else (if bytes_eq text (codes "+/-") then Some verdicts.WhiteCame
     else (if bytes_eq text (codes "-/+") then Some verdicts.BlackCame
-    else (if bytes_eq text (codes "-/-") then Some verdicts.NobodyCame else None))))))))
+    else (if bytes_eq text (codes "-/-") then Some verdicts.NobodyCame
+    else (if bytes_eq text (codes "W/L") then Some verdicts.WhiteUnrated
+    else (if bytes_eq text (codes "L/W") then Some verdicts.BlackUnrated
+    else (if bytes_eq text (codes "D/D") then Some verdicts.DrawUnrated
+    else (if bytes_eq text (codes "as-played") then Some verdicts.AsPlayed else None))))))))))))
 
 -- what stands before a string and its first quote, and its text
 abbrev pub text_behind : List ℕ → List ℕ → List ℕ

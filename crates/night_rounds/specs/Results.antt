@@ -4,7 +4,7 @@ use Rattle.night_report.specs.CsvCells.{cell_text}
 use Rattle.night_report.specs.CsvRows as rows
 use Rattle.night_rounds.specs.declared.decisions.Decision.{Decision}
 use Rattle.night_rounds.specs.declared.outcomes.Outcome.{Outcome}
-use Rattle.night_rounds.specs.Counting.{last_about, result_by, article_by, arbiter_of, reason_of}
+use Rattle.night_rounds.specs.Counting.{decision_about, result_by, article_by, arbiter_of, reason_of}
 
 abbrev pub columns : List (List ℕ)
 columns =
@@ -28,7 +28,7 @@ abbrev pub row_text : Option Decision → Outcome → List ℕ
 row_text decision o = rows.row_text (cells_of decision o)
 
 abbrev pub rows_text : List Decision → List Outcome → List ℕ
-rows_text decisions outcomes = flat_map (λ o. row_text (last_about o.board decisions) o) outcomes
+rows_text decisions outcomes = flat_map (λ o. row_text (decision_about o.board decisions) o) outcomes
 
 abbrev pub results_text : List Decision → List Outcome → List ℕ
 results_text decisions outcomes = rows.row_text columns ++ rows_text decisions outcomes

@@ -6,8 +6,8 @@ ghost use Rattle.night_rounds.specs.Counting as spec;
 use crate::decisions::{Decision, Verdict, verdict_text};
 use night_report::{Play, Score};
 
-/// The last decision about a board.
-pub fn last_about(decisions: &[Decision], board: u32) -> Option<&Decision>
+// The last decision about a board.
+fn last_about(decisions: &[Decision], board: u32) -> Option<&Decision>
     ensures { option_copied result ≡ spec.last_about board decisions.entry.now }
 {
     let mut found = None;
@@ -17,6 +17,26 @@ pub fn last_about(decisions: &[Decision], board: u32) -> Option<&Decision>
         }
     }
     found
+}
+
+// Whether a verdict gives a board no result of its own.
+fn is_as_played(verdict: Verdict) -> bool
+    ensures { result ≡ spec.is_as_played verdict }
+{
+    matches!(verdict, Verdict::AsPlayed)
+}
+
+/// The decision that counts for a board: the last one about it; none where that says `as-played`, as where nobody has
+/// decided.
+pub fn decision_about(decisions: &[Decision], board: u32) -> Option<&Decision>
+    ensures { option_copied result ≡ spec.decision_about board decisions.entry.now }
+{
+    let decision = last_about(decisions, board)?;
+    if is_as_played(decision.verdict) {
+        None
+    } else {
+        Some(decision)
+    }
 }
 
 /// The result that counts: the arbiter's, and else what came of the game.
@@ -71,30 +91,32 @@ fn score_of(verdict: Verdict) -> Score
     ensures { result ≡ spec.score_of verdict }
 {
     match verdict {
-        Verdict::White | Verdict::WhiteCame => Score::White,
-        Verdict::Black | Verdict::BlackCame => Score::Black,
-        Verdict::Draw => Score::Draw,
+        Verdict::White | Verdict::WhiteCame | Verdict::WhiteUnrated => Score::White,
+        Verdict::Black | Verdict::BlackCame | Verdict::BlackUnrated => Score::Black,
+        Verdict::Draw | Verdict::DrawUnrated => Score::Draw,
         Verdict::HalfWhite => Score::HalfWhite,
         Verdict::HalfBlack => Score::HalfBlack,
         Verdict::Neither | Verdict::NobodyCame => Score::Neither,
+        Verdict::AsPlayed => Score::Open,
     }
 }
 
-// Whether who lost by a verdict did not come.
+// How a game came to a verdict: who lost did not come, not both made a move, or else over the board.
 fn play_of(verdict: Verdict) -> Play
     ensures { result ≡ spec.play_of verdict }
 {
     match verdict {
         Verdict::WhiteCame | Verdict::BlackCame | Verdict::NobodyCame => Play::Forfeit,
+        Verdict::WhiteUnrated | Verdict::BlackUnrated | Verdict::DrawUnrated => Play::Short,
         _ => Play::Board,
     }
 }
 
-/// What a report has of a board: by the last decision about it, and else what came of its game.
+/// What a report has of a board: by the decision that counts for it, and else what came of its game.
 pub fn counted(decisions: &[Decision], board: u32, told: Scored) -> Scored
-    ensures { result ≡ spec.scored_by (spec.last_about board decisions.now) told }
+    ensures { result ≡ spec.scored_by (spec.decision_about board decisions.now) told }
 {
-    match last_about(decisions, board) {
+    match decision_about(decisions, board) {
         None => told,
         Some(decision) => Scored {
             score: score_of(decision.verdict),

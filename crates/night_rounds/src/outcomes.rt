@@ -2,10 +2,10 @@
 ghost use Rattle.std.specs.Prelude.{◌≡◌, ◌++◌, IfOk, OnOk};
 ghost use Rattle.std.specs.Option.{option_copied};
 ghost use Rattle.night_report.specs.CsvRows.{bytes_of};
-ghost use Rattle.night_rounds.specs.Counting.{last_about};
+ghost use Rattle.night_rounds.specs.Counting.{decision_about};
 ghost use Rattle.night_rounds.specs.Results as spec;
 
-use crate::counting::{arbiter_of, article_by, last_about, reason_of, result_by};
+use crate::counting::{arbiter_of, article_by, decision_about, reason_of, result_by};
 use crate::decisions::Decision;
 use night_report::{Cell, push_header, push_row};
 use std::alloc::{AllocError, Global};
@@ -67,13 +67,18 @@ fn push_outcomes(
     ensures { OnOk result (rows.new.items ≡ rows.old.items ++ spec.rows_text decisions.now outcomes.now) }
 {
     for outcome in outcomes {
-        push_outcome(rows, alloc, last_about(decisions, outcome.board), *outcome)?;
+        push_outcome(
+            rows,
+            alloc,
+            decision_about(decisions, outcome.board),
+            *outcome,
+        )?;
     }
     Ok(())
 }
 
 /// The results as CSV: the row `board,white,black,result,article,game,server,arbiter,reason,note`, and a row for each
-/// board. Its result is that of the last decision about it, and else what came of its game, which stands in `server`.
+/// board. Its result is that of the decision that counts for it, and else what came of its game, which stands in `server`.
 /// It fails where memory is refused.
 pub fn results(
     alloc: Global,

@@ -5,19 +5,17 @@ use crate::places::{Standings, standings_of};
 use crate::texts::{Boards, Table};
 use anyhow::{Result, bail, ensure};
 use night_report::{
-    Meeting, Opponent, Particulars, Team, all_board_points, all_matches, alternates, are_few,
-    is_matched, sides_of, teams_of,
+    Meeting, Particulars, Team, all_board_points, all_matches, are_few, is_matched, sides_of,
+    teams_of,
 };
 use std::alloc::{AllocError, Global};
 
-// Fails where a board of a round is of no match, or the colours of a match do not alternate.
+// Fails where a board of a round is of no match.
 fn check_round(
     players: &[Particulars<'_>],
-    teams: &[Team<'_>],
     sides: &[u32],
     number: usize,
     round: &[Meeting],
-    matches: &[Meeting],
 ) -> Result<()> {
     for meeting in round {
         if !is_matched(sides, round, *meeting) {
@@ -31,41 +29,15 @@ fn check_round(
             );
         }
     }
-    for meeting in matches {
-        if let Opponent::Player(black) = meeting.black
-            && !alternates(sides, meeting.board, meeting.white, black, round)
-        {
-            let white = meeting.white as usize;
-            let name = teams
-                .get(white.saturating_sub(1))
-                .map_or("", |team| team.name);
-            bail!(
-                "round {number}: colours do not alternate by the numbers of the boards in the match of {name}"
-            );
-        }
-    }
     Ok(())
 }
 
 // Fails where it does so in a round.
-fn check_rounds(
-    players: &[Particulars<'_>],
-    teams: &[Team<'_>],
-    sides: &[u32],
-    rounds: &[Vec<Meeting>],
-    matches: &[Vec<Meeting>],
-) -> Result<()> {
+fn check_rounds(players: &[Particulars<'_>], sides: &[u32], rounds: &[Vec<Meeting>]) -> Result<()> {
     let mut number: usize = 0;
-    for (round, matches) in rounds.iter().zip(matches) {
+    for round in rounds {
         number = number.saturating_add(1);
-        check_round(
-            players,
-            teams,
-            sides,
-            number,
-            round.as_slice(),
-            matches.as_slice(),
-        )?;
+        check_round(players, sides, number, round.as_slice())?;
     }
     Ok(())
 }
@@ -132,8 +104,8 @@ fn text_by(
         "standings are of 9,999 boards a round at most"
     );
     let count = teams.len() as u32;
+    check_rounds(players, sides, rounds)?;
     let matches = all_matches(alloc, sides, rounds, count)?;
-    check_rounds(players, teams, sides, rounds, matches.as_slice())?;
     let points = all_board_points(alloc, sides, rounds, count)?;
     let standings = standings_of(
         alloc,
@@ -155,8 +127,7 @@ fn text_by(
 }
 
 /// The text of the standings of the players' teams, by match points, and among those who are tied by one tie-break
-/// after another. It fails where no player has a team, where a board is of no match, and where colours do not alternate
-/// in a match.
+/// after another. It fails where no player has a team, and where a board is of no match.
 pub fn teams_text(
     alloc: Global,
     asked: &Standing<'_>,

@@ -465,10 +465,6 @@ fn check_cases(rt: &impl Abort, lab: &mut Lab, cases: &[Case]) {
     }
 }
 
-fn browsers_and_servers_are_told(rt: &impl Abort, lab: &mut Lab) {
-    check_cases(rt, lab, &CASES);
-}
-
 // What the last of these acts has told the log.
 const LOGGED: &str =
     "by ann open white 300 2\nok open 1\nok show 1 ann - 0 w 300000 300000 - * -\n";
@@ -939,7 +935,7 @@ fn halls(rt: HostRuntime) {
             is_paused: false,
         },
     };
-    browsers_and_servers_are_told(&rt, &mut lab);
+    check_cases(&rt, &mut lab, &CASES);
     acts_are_logged_and_told(&rt, &mut lab);
     an_act_counts_only_under_its_name(&rt, &mut lab);
     a_file_changes_between_turns(&rt, &mut lab);

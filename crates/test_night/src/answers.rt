@@ -1,9 +1,8 @@
 //! Answers of the server as its protocol's page has them, and lines that are near to one.
 use server_answers::{entered_of, list_head_of, pgn_head_of, refusal_of, row_of, shown_of};
-use std::process::Abort;
 
 // Each has a form, and no other.
-const ANSWERS: [&str; 24] = [
+static ANSWERS: [&str; 24] = [
     "ok open 1",
     "ok join 1 white",
     "ok join 4294967295 black",
@@ -31,7 +30,7 @@ const ANSWERS: [&str; 24] = [
 ];
 
 // None of them has a form.
-const OTHERS: [&str; 20] = [
+static OTHERS: [&str; 20] = [
     "",
     "ok",
     "ok name ann",
@@ -67,20 +66,11 @@ fn readers(line: &str) -> usize {
     reads.iter().filter(|reads| **reads).count()
 }
 
-fn check(rt: &impl Abort, line: &str, wanted: usize) {
-    assert!(rt; readers(line) == wanted);
-}
-
 #[test]
-fn answers_are_read_in_one_way(rt: HostRuntime) {
-    for line in &ANSWERS {
-        check(&rt, line, 1);
-    }
-}
-
-#[test]
-fn other_lines_are_not_read(rt: HostRuntime) {
-    for line in &OTHERS {
-        check(&rt, line, 0);
+fn an_answer_is_read_in_one_way_and_no_other_line(rt: HostRuntime) {
+    for (lines, wanted) in [(ANSWERS.as_slice(), 1), (&OTHERS, 0)] {
+        for line in lines {
+            assert!(rt; readers(line) == wanted);
+        }
     }
 }

@@ -1,6 +1,6 @@
 //! The archive's file: nights in memory, with every kill.
 use crate::cuts::CUTS;
-use night_archive::{Archive, Fault, game_of, pgn_of};
+use night_archive::{Archive, Fault};
 use night_files::{AppendedFile, Fate, MemoryFile, MemoryTorn};
 use std::alloc::Global;
 use std::process::Abort;
@@ -132,29 +132,6 @@ fn refuses_other_lines(rt: HostRuntime) {
         let mut file = file_with(&rt, rt.alloc(), line);
         file.append(b"\n").expect(&rt, "memory");
         assert!(rt; matches!(open(rt.alloc(), file), Err(Fault::NotAGame(2))));
-    }
-}
-
-// Lines, and the game and the PGN of each.
-static LINES: [(&str, u32, &[u8]); 2] = [
-    (
-        "{\"game\":12,\"pgn\":\"[A \\\"b\\\\\\\\\\\"]\\n*\\n\"}",
-        12,
-        b"[A \"b\\\\\"]\n*\n",
-    ),
-    ("{\"game\":7,\"pgn\":\"\u{fc}\"}", 7, b"\xc3\xbc"),
-];
-
-fn check_line(rt: &impl Abort, alloc: Global, line: &str, game: u32, wanted: &[u8]) {
-    assert!(rt; game_of(alloc, line).expect(rt, "memory") == Some(game));
-    let pgn = pgn_of(alloc, line).expect(rt, "memory");
-    assert!(rt; pgn.as_slice() == wanted);
-}
-
-#[test]
-fn reads_lines(rt: HostRuntime) {
-    for (line, game, pgn) in &LINES {
-        check_line(&rt, rt.alloc(), line, *game, pgn);
     }
 }
 

@@ -17,7 +17,7 @@ mod cuts;
 #[cfg(test)]
 mod dates;
 #[cfg(test)]
-mod exports;
+mod figures;
 #[cfg(test)]
 mod headings;
 #[cfg(test)]
@@ -34,11 +34,5 @@ mod room;
 mod rounds;
 #[cfg(test)]
 mod spectators;
-#[cfg(test)]
-mod standings;
-#[cfg(test)]
-mod sums;
-#[cfg(test)]
-mod told;
 #[cfg(test)]
 mod words;

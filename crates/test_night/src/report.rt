@@ -1,9 +1,5 @@
 //! A tournament's report: what no clause says, how much room there is, and signs of what seldom comes.
-use night_games::{RosterFault, RowFault, roster_of};
-use night_report::{
-    Bye, Fault, Meeting, Opponent, Particulars, Play, Score, Tournament, report, starting_order,
-    teams_of,
-};
+use night_report::{Bye, Fault, Meeting, Opponent, Particulars, Play, Score, Tournament, report};
 use std::alloc::Global;
 use std::process::Abort;
 
@@ -163,95 +159,5 @@ fn ends_of_a_report(rt: HostRuntime) {
         )
         .expect(&rt, "a report");
         assert!(rt; text.as_slice().ends_with(end));
-    }
-}
-
-// Particulars: the columns in an order of their own, two teams, and names that are not ASCII.
-const ROSTER: &[u8] = b"rating,name,full_name,title,sex,federation,fide_number,born,team,board\r\n\
-    2400,ann,\"Lee, Ann\",WGM,w,ENG,1234567,2001/02/03,Leeds,2\r\n\
-    2400,bob,\"\xc3\x96z, Bob\",FM,m,TUR,,,\xc3\x96lands Schachfreunde von 1890 e.V.,1\r\n\
-    ,cid,\"Ash, Cid\",,,,,,Leeds,1\r\n\
-    987,dee,,,w,,,,,\r\n";
-
-// Its report, with a day above each of two rounds in which nobody is paired.
-const WHOLE: &str = "012 \n022 \n032 \n042 \n052 \n062 4\n072 3\n082 2\n092 \n102 \n112 \n122 \n\
-132                                                                                        26/11/27  26/12/04\n\
-001    1 wWGM Lee, Ann                          2400 ENG     1234567 2001/02/03  0.0    1  0000 - Z  0000 - Z\n\
-001    2 m FM \u{d6}z, Bob                           2400 TUR                         0.0    1  0000 - Z  0000 - Z\n\
-001    3 w                                       987                             0.0    1  0000 - Z  0000 - Z\n\
-001    4      Ash, Cid                                                           0.0    4  0000 - Z  0000 - Z\n\
-013 Leeds                              4    1\n\
-013 \u{d6}lands Schachfreunde von 1890 e.   2\n";
-
-#[test]
-fn a_whole_report(rt: HostRuntime) {
-    let alloc = rt.alloc();
-    let roster = roster_of(alloc, ROSTER).expect(&rt, "a roster");
-    let known = roster.particulars(alloc).expect(&rt, "memory");
-    let players = starting_order(alloc, &known).expect(&rt, "memory");
-    let teams = teams_of(alloc, &players).expect(&rt, "memory");
-    let rounds = Vec::from_array(alloc, [Vec::new(alloc), Vec::new(alloc)]).expect(&rt, "memory");
-    let days = ["2026/11/27", "2026/12/04"];
-    let places = [0, 0, 0, 3];
-    let text = report(alloc, &EVENT, &days, &players, &places, &teams, &rounds);
-    let text = text.expect(&rt, "a report");
-    assert!(rt; text.as_slice() == WHOLE.as_bytes());
-}
-
-// What is wrong with files of particulars.
-const WRONG: [(&[u8], RosterFault); 17] = [
-    (b"", RosterFault::NoNames),
-    (b"title\nGM\n", RosterFault::NoNames),
-    (b"name,elo\n", RosterFault::Column(2)),
-    (b"name,sex,name\n", RosterFault::Column(1)),
-    (b"name,sex\nann\n", RosterFault::Row(2, RowFault::BadShape)),
-    (b"name,sex\n,w\n", RosterFault::Row(2, RowFault::NoName)),
-    (
-        b"name,full_name\nann,Anna\tLee\n",
-        RosterFault::Row(2, RowFault::BadFullName),
-    ),
-    (
-        b"name,full_name\nann,\"Anna\nLee\"\n",
-        RosterFault::Row(2, RowFault::BadFullName),
-    ),
-    (b"name,sex\nann,f\n", RosterFault::Row(2, RowFault::BadSex)),
-    (
-        b"name,title\nann,GM\nbob,gm\n",
-        RosterFault::Row(3, RowFault::BadTitle),
-    ),
-    (
-        b"name,rating\nann,02400\n",
-        RosterFault::Row(2, RowFault::BadRating),
-    ),
-    (
-        b"name,federation\nann,England\n",
-        RosterFault::Row(2, RowFault::BadFederation),
-    ),
-    (
-        b"name,fide_number\nann,123456789012\n",
-        RosterFault::Row(2, RowFault::BadNumber),
-    ),
-    (
-        b"name,born\nann,2001-02-03\n",
-        RosterFault::Row(2, RowFault::BadBirth),
-    ),
-    (
-        b"name,team\nann,Leeds \x7f\n",
-        RosterFault::Row(2, RowFault::BadTeam),
-    ),
-    (
-        b"name,board\nann,first\n",
-        RosterFault::Row(2, RowFault::BadBoard),
-    ),
-    (
-        b"name,team\nann,Leeds\nbob,York\nann,York\n",
-        RosterFault::Row(2, RowFault::NameTwice),
-    ),
-];
-
-#[test]
-fn wrong_particulars(rt: HostRuntime) {
-    for (text, wanted) in WRONG {
-        assert!(rt; roster_of(rt.alloc(), text).err() == Some(wanted));
     }
 }

@@ -145,9 +145,10 @@ fn games_are_looked_at(rt: HostRuntime) {
     assert!(rt; own.as_slice() == [16, 17, 20].as_slice());
 }
 
-// Lines, and whether they are those of decisions: two about board 1, one about board 2, one with quotes and a text that
-// is not ASCII; and with a blank, another order, a number that has two spellings and a result that is none.
-static DECISIONS: [(&str, bool); 8] = [
+// Lines, and whether they are those of decisions: two about board 1, one about board 2, two about board 5, of which the
+// later one has it as it was played, one about board 6, one with quotes and a text that is not ASCII; and with a blank,
+// another order, a number that has two spellings and a result that is none.
+static DECISIONS: [(&str, bool); 11] = [
     (
         "{\"at\":1764160000123,\"board\":1,\"result\":\"0-0\",\
          \"white\":\"ann\",\"black\":\"bob\",\"article\":\"12.9\",\"arbiter\":\"Eve\",\"reason\":\"both rang\"}",
@@ -161,6 +162,21 @@ static DECISIONS: [(&str, bool); 8] = [
     (
         "{\"at\":1764160000125,\"board\":2,\"result\":\"+/-\",\
          \"white\":\"cid\",\"black\":\"dee\",\"article\":\"\",\"arbiter\":\"Eve\",\"reason\":\"=late\"}",
+        true,
+    ),
+    (
+        "{\"at\":1764160000126,\"board\":5,\"result\":\"0-1\",\
+         \"white\":\"ann\",\"black\":\"bob\",\"article\":\"\",\"arbiter\":\"Eve\",\"reason\":\"a wrong board\"}",
+        true,
+    ),
+    (
+        "{\"at\":1764160000127,\"board\":5,\"result\":\"as-played\",\
+         \"white\":\"ann\",\"black\":\"bob\",\"article\":\"\",\"arbiter\":\"Eve\",\"reason\":\"it was board 6\"}",
+        true,
+    ),
+    (
+        "{\"at\":1764160000128,\"board\":6,\"result\":\"D/D\",\
+         \"white\":\"ann\",\"black\":\"bob\",\"article\":\"\",\"arbiter\":\"Eve\",\"reason\":\"one move\"}",
         true,
     ),
     (
@@ -221,12 +237,14 @@ fn won(board: u32) -> Outcome<'static> {
 #[test]
 fn a_results_file(rt: HostRuntime) {
     let decisions = decisions(&rt, rt.alloc());
-    let outcomes = [won(1), won(2), won(4)];
+    let outcomes = [won(1), won(2), won(4), won(5), won(6)];
     let text = results(rt.alloc(), &decisions, &outcomes).expect(&rt, "memory");
     let wanted = b"board,white,black,result,article,game,server,arbiter,reason,note\r\n\
         1,ann,bob,1/2-1/2,6.9,17,1-0,Eve,a knight,a note\r\n\
         2,ann,bob,'+/-,,17,1-0,Eve,'=late,a note\r\n\
-        4,ann,bob,1-0,6.9,17,1-0,,,a note\r\n";
+        4,ann,bob,1-0,6.9,17,1-0,,,a note\r\n\
+        5,ann,bob,1-0,6.9,17,1-0,,,a note\r\n\
+        6,ann,bob,D/D,,17,1-0,Eve,one move,a note\r\n";
     assert!(rt; text.as_slice() == wanted.as_slice());
 }
 
@@ -241,6 +259,10 @@ fn the_last_decision_counts_in_a_report(rt: HostRuntime) {
     assert!(rt; matches!((first.score, first.play), (Score::Draw, Play::Board)));
     let second = counted(&decisions, 2, told);
     assert!(rt; matches!((second.score, second.play), (Score::White, Play::Forfeit)));
-    let other = counted(&decisions, 4, told);
-    assert!(rt; matches!((other.score, other.play), (Score::White, Play::Short)));
+    for board in [4, 5] {
+        let other = counted(&decisions, board, told);
+        assert!(rt; matches!((other.score, other.play), (Score::White, Play::Short)));
+    }
+    let last = counted(&decisions, 6, told);
+    assert!(rt; matches!((last.score, last.play), (Score::Draw, Play::Short)));
 }
