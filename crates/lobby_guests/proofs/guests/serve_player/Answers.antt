@@ -14,11 +14,11 @@ returns-then-not-is_asked g c =
     subst (λ (b : Bool). IsToAsk b talk c.args.at read c.args.asks.now asks) c.if-not-is_asked.true c.in_ok-is_asked.ensures in
     let hears : IsPlayerHeard c.args.at read read (room_of talk c.args.asks.now) (room_of talk asks) = elim asked [
       | inl ahead ↦ inr (inl ahead)
-      | inr (other, same, no_turn) ↦ inr (inr (record {
+      | inr (other, off) ↦ inr (inr (record {
         other = other;
-        no_turn = no_turn;
+        no_turn = off.1;
         guest = refl;
-        rest = ap (λ (a : Asks). room_of talk a) same;
+        rest = ap (λ (a : Asks). room_of talk a) off.0;
       }))
     ] in
     record {
