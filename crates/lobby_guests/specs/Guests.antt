@@ -2,7 +2,7 @@
 use Rattle.std.specs.Prelude.{ℕ, ◌≡◌, ◌≢◌, ◌≤◌, ◌<◌, ◌+◌, ◌-◌, ◌/◌, ◌⊎◌, ◌↔◌, ◌&&◌, ◌||◌, ◌==◌}
 use Rattle.std.specs.Prelude.{nat_le, nat_lt, min, ◌^◌, Bool, true, false, not, IsTrue}
 use Rattle.std.specs.Prelude.{count_by, if◌then◌else◌, is_some, List, [], ◌∷◌, ◌++◌, Option, None, Some}
-use Rattle.std.specs.Prelude.{length, take, filter, Result, Ok, Err, is_err}
+use Rattle.std.specs.Prelude.{length, take, filter, slice_get, Result, Ok, Err, is_err}
 use Rattle.std.specs.BTreeMap.{BTreeMap}
 use Rattle.std.specs.List.{AllZip}
 use Rattle.std.specs.Option.{option_map}
@@ -213,17 +213,22 @@ InTurn {A = A} {B = B} does (one ∷ ones) after old new =
 abbrev pub has_time : ℕ → ℕ → Bool
 has_time at until = nat_le (until - at) 10000
 
--- whether it is the turn of who has this name: more have one, and it is not passed
+-- whether it is the turn of who has this name: more have one, it is not passed, and it was there when the round began
 abbrev pub is_at : ℕ → Round → Bool
-is_at key round = nat_lt 0 round.left && nat_le round.from key
+is_at key round = nat_lt 0 round.left && nat_le round.from key && nat_lt key round.to
 
 -- the round goes on behind who has this name
 abbrev pub behind : ℕ → Round → Round
 behind key round = record round { from = min (key + 1) (2 ^ 64 - 1); left = round.left - 1 }
 
--- the round at the beginning of a turn in which so many have one: it goes on where it stood
-abbrev pub begun : ℕ → Round → Round
-begun most round = record round { has_passed = nat_lt 0 round.from; left = most }
+-- the round at the beginning of a turn in which so many have one: it goes on where it stood, and one that begins anew
+-- is that of who is there, of whom none has this name or a later one
+abbrev pub begun : ℕ → ℕ → Round → Round
+begun most next round = record round {
+  to = if nat_lt 0 round.from then round.to else next;
+  has_passed = nat_lt 0 round.from;
+  left = most;
+}
 
 -- the round at the end of a turn: it begins anew with the first where more could have had one, and nowhere else
 abbrev pub over : Round → Round
@@ -259,17 +264,25 @@ abbrev pub long_most : Bool → ℕ
 long_most is_free = if is_free then 1 else 0
 
 -- who asked for much last is forgotten where that is answered
-abbrev pub begun_asks : Bool → Asks → Asks
-begun_asks is_free asks = record asks {
-  brief = begun brief_most asks.brief;
-  long = begun (long_most is_free) asks.long;
+abbrev pub begun_asks : Bool → ℕ → Asks → Asks
+begun_asks is_free next asks = record asks {
+  brief = begun brief_most next asks.brief;
+  long = begun (long_most is_free) next asks.long;
   asker = if is_free then None else asks.asker;
   next_act = None;
 }
 
 -- the same at the beginning of a turn
-abbrev pub full_asking : Bool → Talk → Asks → Asking
-full_asking is_free talk asks = room_of talk (begun_asks is_free asks)
+abbrev pub full_asking : Bool → ℕ → Talk → Asks → Asking
+full_asking is_free next talk asks = room_of talk (begun_asks is_free next asks)
+
+abbrev pub name_behind : {S : Type 0} → Option (Guest S) → ℕ
+name_behind None = 0
+name_behind (Some guest) = min (guest.key + 1) (2 ^ 64 - 1)
+
+-- the name behind that of the last of these: names grow
+abbrev pub next_name : {S : Type 0} → List (Guest S) → ℕ
+next_name guests = name_behind (slice_get guests (length guests - 1))
 
 -- the same at its end
 abbrev pub asking_over : Asking → Asking
@@ -465,7 +478,7 @@ pub record AreAttended {S : Type 0} (remaining : S → Option (List ℕ)) (site 
   pub free : IsTrue is_free ↔ IsAnswered talk.desk asks.asker
   pub first : List (Guest S)
   pub said : Asking
-  pub players : InTurn (IsPlayersTurn remaining site at) old first (full_asking is_free talk asks) said
+  pub players : InTurn (IsPlayersTurn remaining site at) old first (full_asking is_free (next_name old) talk asks) said
   pub last : Room
   pub others : InTurn (IsOthersTurn remaining site at) first new (full_room said.talk) last
   pub after_is : after ≡ last.talk

@@ -10,7 +10,7 @@ ghost use Rattle.lobby_talk.specs.Counting.{counted_up};
 ghost use Rattle.lobby_guests.specs.Guests as guests;
 ghost use Rattle.lobby_guests.specs.Guests.{IsLeftAlone, IsSettled, IsServed, IsPlayersTurn, IsOthersTurn, InTurn};
 ghost use Rattle.lobby_guests.specs.Guests.{IsPlayerServed, IsAnswered, KnowsAsks, Asking, full_asking, asking_over};
-ghost use Rattle.lobby_guests.specs.Guests.{Room, full_room};
+ghost use Rattle.lobby_guests.specs.Guests.{Room, full_room, next_name};
 ghost use Rattle.lobby_guests.specs.Rounds.{room_of, others_room, TakesTurn, HasTurn, IsToAsk};
 ghost use Rattle.lobby_guests.specs.Guests.{AreAttended, AreTold, AreDelivered, IsWritten, IsLookedAfter, IsClosedIf};
 ghost use Rattle.lobby_guests.specs.Guests.{AreClosed, AreParted, IsCaughtUp, AreAnswered, first_wanted, has_waiting};
@@ -173,6 +173,16 @@ fn attend_player<S: Read + Write, K: KeepsLinks>(
     serve_player(guest, asks, site, talk, at, links, piece, coming)
 }
 
+// The name behind that of who came last: who comes then has that or a later one.
+fn next_key<S>(guests: &[Guest<S>]) -> usize
+    ensures { result ≡ next_name guests.now }
+{
+    match guests.last() {
+        None => 0,
+        Some(guest) => guest.key().saturating_add(1),
+    }
+}
+
 // Attends each that acts for a player. It tells whether there was anything, or more can be taken at once.
 fn attend_players<S: Read + Write, K: KeepsLinks>(
     guests: &mut Vec<Guest<S>>,
@@ -186,11 +196,12 @@ fn attend_players<S: Read + Write, K: KeepsLinks>(
 ) -> Result<bool, AllocError>
     ensures { OnOk result ((is_free : Bool) × (IsTrue is_free ↔ IsAnswered talk.old.desk asks.old.asker)
         × (said : Asking) × InTurn (IsPlayersTurn S.remaining site.now at) guests.old.items guests.new.items
-        (full_asking is_free talk.old asks.old) said × (room_of talk.new asks.new ≡ asking_over said)) }
+        (full_asking is_free (next_name guests.old.items) talk.old asks.old) said × (room_of talk.new asks.new ≡ asking_over said)) }
 {
     let mut any = false;
     let is_free = is_answered(asks.asker, talk);
-    asks.begin(is_free);
+    let next = next_key(guests.as_slice());
+    asks.begin(is_free, next);
     for guest in guests.iter_mut() {
         any |= attend_player(guest, asks, site, talk, at, links, piece, coming)?;
     }
@@ -237,7 +248,8 @@ fn attend_others<S: Read + Write, K: KeepsLinks>(
         × InTurn (IsOthersTurn S.remaining site.now at) guests.old.items guests.new.items (full_room talk.old) room) }
 {
     let mut any = false;
-    strangers.begin(count_unheard(guests.as_slice()));
+    let next = next_key(guests.as_slice());
+    strangers.begin(count_unheard(guests.as_slice()), next);
     for guest in guests.iter_mut() {
         any |= attend_other(guest, strangers, site, talk, at, links, piece, coming)?;
     }
@@ -457,7 +469,7 @@ fn write_players<S: Read + Write>(
     ensures strangers { AllZip (LeavesStranger talk.now.desk) guests.old.items guests.new.items }
 {
     let mut any = false;
-    round.begin(TOLD_MOST);
+    round.begin(TOLD_MOST, next_key(guests.as_slice()));
     for guest in guests.iter_mut() {
         let is_turn = has_players_turn(guest, talk, round);
         any |= guest.write_out(site, is_turn);
@@ -476,7 +488,7 @@ fn write_others<S: Read + Write>(
     ensures { AllZip (IsWritten S.contents site.now) guests.old.items guests.new.items }
 {
     let mut any = false;
-    round.begin(WRITTEN_MOST);
+    round.begin(WRITTEN_MOST, next_key(guests.as_slice()));
     for guest in guests.iter_mut() {
         let is_turn = guest.to_write() > 0 && !talk.acts(guest.number()) && round.take(guest.key());
         any |= guest.write_out(site, is_turn);

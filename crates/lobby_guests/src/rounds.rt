@@ -34,8 +34,10 @@ pub const WRITTEN_MOST: usize = 16;
 /// A round, by the names of their sockets.
 #[derive(Clone, Copy)]
 pub struct Round {
-    // The turn is that of who has this name or a later one.
+    // The turn is that of who has this name or a later one,
     from: usize,
+    // and an earlier one than this: who comes while a round goes on waits for the next one.
+    to: usize,
     // Whether those before it had no turn.
     has_passed: bool,
     // How many more have a turn.
@@ -43,11 +45,15 @@ pub struct Round {
 }
 
 impl Round {
-    /// So many have a turn from now on.
-    pub fn begin(&mut self, most: usize)
-        ensures { self.new ≡ begun most self.old }
+    /// So many have a turn from now on. Nobody has this name or a later one so far: a round that begins is that of who
+    /// is there.
+    pub fn begin(&mut self, most: usize, next: usize)
+        ensures { self.new ≡ begun most next self.old }
     {
         self.has_passed = self.from > 0;
+        if !self.has_passed {
+            self.to = next;
+        }
         self.left = most;
     }
 
@@ -58,7 +64,7 @@ impl Round {
         ensures taken { result ≡ true → self.new ≡ behind key self.old }
         ensures passed { result ≡ false → self.new ≡ self.old }
     {
-        let is_turn = self.left > 0 && key >= self.from;
+        let is_turn = self.left > 0 && key >= self.from && key < self.to;
         if is_turn {
             self.left -= 1;
             self.from = key.saturating_add(1);
@@ -97,16 +103,17 @@ pub struct Asks {
 
 impl Asks {
     /// A turn begins, in which one may ask for much just where who did last is answered: who that was is forgotten.
-    pub fn begin(&mut self, is_free: bool)
-        ensures { self.new ≡ begun_asks is_free self.old }
+    /// Nobody has this name or a later one so far.
+    pub fn begin(&mut self, is_free: bool, next: usize)
+        ensures { self.new ≡ begun_asks is_free next self.old }
     {
         self.next_act = None;
-        self.brief.begin(BRIEF_MOST);
+        self.brief.begin(BRIEF_MOST, next);
         if is_free {
             self.asker = None;
-            self.long.begin(1);
+            self.long.begin(1, next);
         } else {
-            self.long.begin(0);
+            self.long.begin(0, next);
         }
     }
 
@@ -156,12 +163,13 @@ pub struct Strangers {
 }
 
 impl Strangers {
-    /// Some of them have a turn from now on, of whom so many were not heard yet.
-    pub fn begin(&mut self, unheard: usize)
+    /// Some of them have a turn from now on, of whom so many were not heard yet. Nobody has this name or a later one so
+    /// far.
+    pub fn begin(&mut self, unheard: usize, next: usize)
         ensures { self.new.round.left + self.new.fresh ≡ others_most }
     {
         self.fresh = unheard.min(FRESH_MOST);
-        self.round.begin(ATTENDED_MOST - self.fresh);
+        self.round.begin(ATTENDED_MOST - self.fresh, next);
     }
 
     /// Whether it is the turn of one whose socket has this name, and of whom nothing was heard yet, or not; then it has
@@ -197,6 +205,7 @@ impl Rounds {
     {
         let round = Round {
             from: 0,
+            to: 0,
             has_passed: false,
             left: 0,
         };
