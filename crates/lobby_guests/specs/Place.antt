@@ -1,7 +1,9 @@
 -- A connection's place, as the desk has it, and who gives it up.
-use Rattle.std.specs.Prelude.{ℕ, ◌≡◌, ◌||◌, Bool, true, false, Option}
+use Rattle.std.specs.Prelude.{ℕ, ◌≡◌, ◌+◌, ◌-◌, ◌^◌, ◌||◌, Bool, true, false, List, Option}
+use Rattle.std.specs.Prelude.{length, min, nat_lt, if◌then◌else◌}
 use Rattle.lobby_desk.specs.declared.desk.Desk.{Desk}
 use Rattle.lobby_talk.specs.Talking.{acts_at}
+use Rattle.lobby_web.specs.Browsing.{pending}
 use Rattle.lobby_guests.specs.declared.guest.Guest.{Guest}
 use Rattle.lobby_guests.specs.declared.place.Place.{Place}
 use Rattle.lobby_guests.specs.declared.place.Role.{Role}
@@ -25,6 +27,11 @@ abbrev pub role_of : Desk → Bool → Option ℕ → Role
 role_of desk true number = Gone
 role_of desk false number = role_by (acts_at desk number)
 
+-- from when on the time counts of one that came at this moment: from 20 seconds later while these bytes are left to
+-- write to it, so that an answer is not cut off in them
+abbrev pub counts_from : List ℕ → ℕ → ℕ
+counts_from out since = if nat_lt 0 (length out) then min (since + 20000) (2 ^ 64 - 1) else since
+
 -- a connection's place; its time counts from when it came, and of one that acted for a player from the last turn in
 -- which it did
 abbrev pub place_of : {S : Type 0} → Desk → Guest S → Place
@@ -32,7 +39,7 @@ place_of desk guest = record {
   address = guest.origin.address;
   role = role_of desk guest.is_lost guest.number;
   player = player_of desk guest.number;
-  since = guest.since;
+  since = counts_from (pending guest.browser.stage) guest.since;
 }
 
 -- A connection goes where its place has nobody any more; nothing else changes.

@@ -69,6 +69,9 @@ const A_REFUSED_LOGIN: u64 = 12_000;
 
 const LOGINS_AHEAD: u64 = 48_000;
 
+/// So many milliseconds more has one that acts for nobody while something is left to write to it.
+const AN_ANSWER_MORE: u64 = 20_000;
+
 /// A browser's connection.
 #[derive(Drop)]
 pub struct Guest<S> {
@@ -303,11 +306,16 @@ impl<S> Guest<S> {
     pub fn place(&self, talk: &Talk) -> Place
         ensures { result ≡ place_of talk.now.desk self.now }
     {
+        let since = if self.browser.out().is_empty() {
+            self.since
+        } else {
+            self.since.saturating_add(AN_ANSWER_MORE)
+        };
         Place {
             address: self.origin.address,
             role: self.role(talk),
             player: self.player(talk),
-            since: self.since,
+            since,
         }
     }
 

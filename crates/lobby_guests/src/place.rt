@@ -24,7 +24,8 @@ pub struct Place {
     pub role: Role,
     /// The player for whom it acts, if for any.
     pub player: Option<Name>,
-    /// When it came, in milliseconds.
+    /// From when on its time counts, in milliseconds: when it came, and 20 seconds later while something is left to
+    /// write to it.
     pub since: u64,
 }
 

@@ -12,7 +12,8 @@ use Rattle.lobby_guests.specs.Guests.{IsAsBefore}
 use Rattle.lobby_guests.specs.Place.{is_gone}
 use Rattle.lobby_loop.specs.Places.{is_player, gone, each_own, judged, IsKeptOrClosed, IsKeptOrGone, IsOwned, IsFair}
 use Rattle.lobby_guests.specs.Place.{role_by}
-use Rattle.lobby_guests.specs.Place.{role_of, player_of, place_of, Yields}
+use Rattle.lobby_guests.specs.Place.{role_of, player_of, counts_from, place_of, Yields}
+use Rattle.lobby_web.specs.Browsing.{pending}
 use Rattle.lobby_loop.specs.Seating.{AreYielding, YieldAt, AreSeated, AreSeatedIf}
 use Rattle.lobby_guests.proofs.Catching.{same_guest}
 use Rattle.lobby_talk.proofs.Each.{SameFrom, further_same, further_front}
@@ -102,17 +103,24 @@ kept_or_gone (p ∷ ps) (q ∷ qs) (r ∷ rs) first second =
     (gone_twice p q r first.0 second.0, kept_or_gone ps qs rs first.1 second.1)
 
 module _ {S : Type 0} (desk : Desk) where
+  -- from when on its time counts
+  abbrev time_of : Guest S → ℕ
+  time_of g = counts_from (pending g.browser.stage) g.since
+
   yielded_place : (p : Place) (g h : Guest S) → Yields p g h →
-      place_of desk h ≡ place_with g.origin.address (role_of desk (g.is_lost || is_gone p.role) g.number) (player_of desk g.number) g.since
+      place_of desk h ≡ place_with g.origin.address (role_of desk (g.is_lost || is_gone p.role) g.number) (player_of desk g.number) (time_of g)
   yielded_place p g h yields =
-      ap (λ o. place_with o.address (role_of desk h.is_lost h.number) (player_of desk h.number) h.since) yields.before.still.visit.origin
-      ∙ ap (λ b. place_with g.origin.address (role_of desk b h.number) (player_of desk h.number) h.since) yields.lost
-      ∙ ap (λ n. place_with g.origin.address (role_of desk (g.is_lost || is_gone p.role) n) (player_of desk n) h.since) yields.before.still.number
-      ∙ ap (λ n. place_with g.origin.address (role_of desk (g.is_lost || is_gone p.role) g.number) (player_of desk g.number) n) yields.before.still.visit.since
+      let role = role_of desk (g.is_lost || is_gone p.role) g.number in
+      let with_time : ℕ → Place = λ n. place_with g.origin.address role (player_of desk g.number) n in
+      ap (λ o. place_with o.address (role_of desk h.is_lost h.number) (player_of desk h.number) (time_of h)) yields.before.still.visit.origin
+      ∙ ap (λ b. place_with g.origin.address (role_of desk b h.number) (player_of desk h.number) (time_of h)) yields.lost
+      ∙ ap (λ n. place_with g.origin.address (role_of desk (g.is_lost || is_gone p.role) n) (player_of desk n) (time_of h)) yields.before.still.number
+      ∙ ap (λ b. with_time (counts_from (pending b.stage) h.since)) yields.before.still.browser
+      ∙ ap (λ n. with_time (counts_from (pending g.browser.stage) n)) yields.before.still.visit.since
 
   one_place : (p : Place) (g h : Guest S) → Yields p g h → IsKeptOrGone (place_of desk g) p → place_of desk h ≡ p
   one_place p g h yields kept =
-      let with_role : Role → Place = λ r. place_with g.origin.address r (player_of desk g.number) g.since in
+      let with_role : Role → Place = λ r. place_with g.origin.address r (player_of desk g.number) (time_of g) in
       elim kept [
         | inl same ↦
             yielded_place p g h yields
