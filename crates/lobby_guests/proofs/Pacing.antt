@@ -7,10 +7,9 @@ use Rattle.lobby_talk.specs.Front.{may_be_act}
 use Rattle.lobby_talk.specs.declared.talk.Talk.{Talk}
 use Rattle.lobby_guests.specs.declared.guest.Guest.{Guest}
 use Rattle.lobby_guests.specs.declared.rounds.Asks.{Asks}
-use Rattle.lobby_guests.specs.declared.rounds.Round.{Round}
 use Rattle.lobby_guests.specs.Paces.{taken_until, payer_of, paid_by, may_act, acts_from, PaysIf, ActsAt, AreBetween}
 use Rattle.lobby_guests.specs.Guests.{MayBeAsked, IsPaced, earlier}
-use Rattle.lobby_guests.specs.Rounds.{room_of, LetsAct, PaysAct, KeepsPaces, TakesOne, HasTurn, ActsAtOnce, IsToAsk}
+use Rattle.lobby_guests.specs.Rounds.{room_of, LetsAct, PaysAct, HasTurn, IsToAsk}
 
 no_other : (b : Bool) → b ≡ false → b ≡ true → ⊥
 no_other true is so = cc
@@ -32,23 +31,13 @@ module _ {S : Type 0} (talk : Talk) (at : ℕ) (guest : Guest S) where
   -- it has no turn
   pub put_off : (old mid new : Asks) (player : ℕ) → LetsAct true player at old mid → HasTurn false talk.desk guest mid new →
       IsToAsk false talk at guest old new
-  put_off old mid new player (may, same) (other, still) = inr (other, still ∙ same)
+  put_off old mid new player (may, same) had = inr (subst (λ (a : Asks). HasTurn false talk.desk guest a new) same had)
 
-  keeps : (old new : Asks) → HasTurn true talk.desk guest old new → KeepsPaces old new
-  keeps old new (inl (act, same)) = record { paces = ap (λ (a : Asks). a.paces) same; next_act = ap (λ (a : Asks). a.next_act) same }
-  keeps old new (inr (kept, one)) = kept
-
-  turn : (old mid new : Asks) → HasTurn true talk.desk guest old mid → new.round ≡ mid.round → new.asker ≡ mid.asker →
-      ActsAtOnce guest old new ⊎ TakesOne talk.desk guest old new
-  turn old mid new (inl (act, same)) round asker = inl (
-    act,
-    ap (λ (r : Round). r.left) round ∙ ap (λ (a : Asks). a.round.left) same,
-    asker ∙ ap (λ (a : Asks). a.asker) same,
-  )
-  turn old mid new (inr (kept, inl (brief, less, one))) round asker =
-      inr (inl (brief, subst (λ (r : Round). r.left < old.round.left) (sym round) less, asker ∙ one))
-  turn old mid new (inr (kept, inr (answered, some, last, one))) round asker =
-      inr (inr (answered, some, ap (λ (r : Round). r.left) round ∙ last, asker ∙ one))
+  -- nobody pays by having a turn
+  keeps : (old new : Asks) → HasTurn true talk.desk guest old new → (new.paces ≡ old.paces) × (new.next_act ≡ old.next_act)
+  keeps old new (inl (act, same)) = (ap (λ (a : Asks). a.paces) same, ap (λ (a : Asks). a.next_act) same)
+  keeps old new (inr (inl (little, turn, is))) = (ap (λ (a : Asks). a.paces) is, ap (λ (a : Asks). a.next_act) is)
+  keeps old new (inr (inr (much, turn, is))) = (ap (λ (a : Asks). a.paces) is, ap (λ (a : Asks). a.next_act) is)
 
   -- it is asked, and its player pays if it may be taken
   pub paid : (old mid turned new : Asks) (player : ℕ) (pays : Bool) → player ≡ payer_of talk.desk guest.number →
@@ -62,10 +51,12 @@ module _ {S : Type 0} (talk : Talk) (at : ℕ) (guest : Guest S) where
           is_taken = pays;
           taken = (λ so. (act, taken.0 so), λ both. taken.1 both.1);
           pays = subst (λ (n : ℕ). PaysIf pays at n old.paces new.paces) is
-              (subst (λ (b : BTreeMap ℕ ℕ). PaysIf pays at player b new.paces) kept.paces pay.pays);
-          next_act = pay.next_act ∙ kept.next_act;
+              (subst (λ (b : BTreeMap ℕ ℕ). PaysIf pays at player b new.paces) kept.0 pay.pays);
+          next_act = pay.next_act ∙ kept.1;
         },
-        turn old turned new had pay.round pay.asker,
+        turned,
+        had,
+        pay.rounds,
       )
 
   -- for what is no act nobody pays
@@ -77,10 +68,12 @@ module _ {S : Type 0} (talk : Talk) (at : ℕ) (guest : Guest S) where
           in_time = λ act. absurd (no_other (may_be_act (unread guest.browser.stage)) other act);
           is_taken = false;
           taken = (λ so. absurd (cc), λ both. absurd (no_other (may_be_act (unread guest.browser.stage)) other both.0));
-          pays = kept.paces;
-          next_act = kept.next_act;
+          pays = kept.0;
+          next_act = kept.1;
         },
-        turn old new new had refl refl,
+        new,
+        had,
+        record { brief = refl; long = refl; asker = refl },
       )
   unpaid false old new other had = inr had
 

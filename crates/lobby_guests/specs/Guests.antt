@@ -1,10 +1,11 @@
 -- What happens at a browser's connection.
 use Rattle.std.specs.Prelude.{ℕ, ◌≡◌, ◌≢◌, ◌≤◌, ◌<◌, ◌+◌, ◌-◌, ◌/◌, ◌⊎◌, ◌↔◌, ◌&&◌, ◌||◌, ◌==◌}
-use Rattle.std.specs.Prelude.{nat_le, nat_lt, min, Bool, true, false, not}
+use Rattle.std.specs.Prelude.{nat_le, nat_lt, min, ◌^◌, Bool, true, false, not, IsTrue}
 use Rattle.std.specs.Prelude.{count_by, if◌then◌else◌, is_some, List, [], ◌∷◌, ◌++◌, Option, None, Some}
-use Rattle.std.specs.Prelude.{length, take, filter, Result, Ok, Err, is_err}
+use Rattle.std.specs.Prelude.{length, take, filter, slice_get, Result, Ok, Err, is_err}
 use Rattle.std.specs.BTreeMap.{BTreeMap}
 use Rattle.std.specs.List.{AllZip}
+use Rattle.std.specs.Option.{option_map}
 use Rattle.std.specs.Io.KnownBytes.{Consumes, Appends}
 use Rattle.std.specs.Str.{bytes_eq}
 use Rattle.std.specs.String.{string_bytes}
@@ -31,6 +32,7 @@ use Rattle.lobby_talk.specs.Replaying.{Replays}
 use Rattle.lobby_talk.specs.declared.kept_answer.KeptAnswer.{KeptAnswer}
 use Rattle.lobby_talk.specs.declared.under_way.UnderWay.{UnderWay}
 use Rattle.lobby_guests.specs.declared.rounds.Asks.{Asks}
+use Rattle.lobby_guests.specs.declared.rounds.Round.{Round}
 use Rattle.lobby_guests.specs.declared.waiting.Waiting.{Waiting}
 use Rattle.lobby_guests.specs.Paces.{payer_of, paid_by, may_act, acts_from, PaysIf}
 pub use Rattle.lobby_guests.specs.Paces.{taken_until}
@@ -211,12 +213,34 @@ InTurn {A = A} {B = B} does (one ∷ ones) after old new =
 abbrev pub has_time : ℕ → ℕ → Bool
 has_time at until = nat_le (until - at) 10000
 
--- what players may still ask in a turn that is no act: so many more messages are taken, over all connections; and whose
--- was taken last that may ask for much, by its number at the desk; until when each player has paid for his acts, and
--- from when on the first of those may be taken that wait for that
+-- whether it is the turn of who has this name: more have one, it is not passed, and it was there when the round began
+abbrev pub is_at : ℕ → Round → Bool
+is_at key round = nat_lt 0 round.left && nat_le round.from key && nat_lt key round.to
+
+-- the round goes on behind who has this name
+abbrev pub behind : ℕ → Round → Round
+behind key round = record round { from = min (key + 1) (2 ^ 64 - 1); left = round.left - 1 }
+
+-- the round at the beginning of a turn in which so many have one: it goes on where it stood, and one that begins anew
+-- is that of who is there, of whom none has this name or a later one
+abbrev pub begun : ℕ → ℕ → Round → Round
+begun most next round = record round {
+  to = if nat_lt 0 round.from then round.to else next;
+  has_passed = nat_lt 0 round.from;
+  left = most;
+}
+
+-- the round at the end of a turn: it begins anew with the first where more could have had one, and nowhere else
+abbrev pub over : Round → Round
+over round = record round { from = if nat_lt 0 round.left then 0 else round.from }
+
+-- what players may still ask in a turn that is no act, over all connections: the rounds of what asks for little and of
+-- what may ask for much; and whose was taken last of these, by its number at the desk, until that is answered; until
+-- when each player has paid for his acts, and from when on the first of those may be taken that wait for that
 pub record Asking : Type 0 where
   pub talk : Talk
-  pub left : ℕ
+  pub brief : Round
+  pub long : Round
   pub asker : Option ℕ
   pub paces : BTreeMap ℕ ℕ
   pub next_act : Option ℕ
@@ -224,25 +248,50 @@ pub record Asking : Type 0 where
 abbrev pub room_of : Talk → Asks → Asking
 room_of talk asks = record {
   talk = talk;
-  left = asks.round.left;
+  brief = asks.brief;
+  long = asks.long;
   asker = asks.asker;
   paces = asks.paces;
   next_act = asks.next_act;
 }
 
--- So many are taken in a turn at most.
-abbrev pub asked_most : ℕ
-asked_most = 8
+-- So many that ask for little are taken in a turn at most.
+abbrev pub brief_most : ℕ
+brief_most = 7
 
--- the same at the beginning of a turn
-abbrev pub full_asking : Talk → Asks → Asking
-full_asking talk asks = record {
-  talk = talk;
-  left = asked_most;
-  asker = asks.asker;
-  paces = asks.paces;
+-- And one that may ask for much, where the last such is answered.
+abbrev pub long_most : Bool → ℕ
+long_most is_free = if is_free then 1 else 0
+
+-- who asked for much last is forgotten where that is answered
+abbrev pub begun_asks : Bool → ℕ → Asks → Asks
+begun_asks is_free next asks = record asks {
+  brief = begun brief_most next asks.brief;
+  long = begun (long_most is_free) next asks.long;
+  asker = if is_free then None else asks.asker;
   next_act = None;
 }
+
+-- the same at the beginning of a turn
+abbrev pub full_asking : Bool → ℕ → Talk → Asks → Asking
+full_asking is_free next talk asks = room_of talk (begun_asks is_free next asks)
+
+abbrev pub name_behind : {S : Type 0} → Option (Guest S) → ℕ
+name_behind None = 0
+name_behind (Some guest) = min (guest.key + 1) (2 ^ 64 - 1)
+
+-- the name behind that of the last of these: names grow
+abbrev pub next_name : {S : Type 0} → List (Guest S) → ℕ
+next_name guests = name_behind (slice_get guests (length guests - 1))
+
+-- the same at its end
+abbrev pub asking_over : Asking → Asking
+asking_over room = record room { brief = over room.brief; long = over room.long }
+
+-- whether it is the turn of a connection in whose front no act stands, in the round of what it asks
+abbrev pub is_turn_of : {S : Type 0} → Guest S → Round → Round → Bool
+is_turn_of guest brief long =
+    if has_brief (unread guest.browser.stage) then is_at guest.key brief else is_at guest.key long
 
 -- until when the player for whom a connection acts has paid for his acts, over all connections that act for him
 abbrev pub paid_for_acts : {S : Type 0} → Asking → Guest S → ℕ
@@ -285,22 +334,26 @@ pub record IsPaced {S : Type 0} (at : ℕ) (guest : Guest S) (room after : Askin
 pub record IsActing {S : Type 0} (at : ℕ) (old new : Guest S) (room after : Asking) : Type 0 where
   pub act : has_act (unread old.browser.stage) ≡ true
   pub heard : IsHeardNow at old new room.talk after.talk
-  pub left : after.left ≡ room.left
+  pub brief : after.brief ≡ room.brief
+  pub long : after.long ≡ room.long
   pub asker : after.asker ≡ room.asker
 
--- All else takes a turn that is left: what asks for little, and
+-- All else has its turn: what asks for little, and
 pub record IsBrief {S : Type 0} (at : ℕ) (old new : Guest S) (room after : Asking) : Type 0 where
-  pub brief : has_brief (unread old.browser.stage) ≡ true
+  pub little : has_brief (unread old.browser.stage) ≡ true
   pub heard : IsHeardNow at old new room.talk after.talk
-  pub takes : after.left < room.left
+  pub turn : is_at old.key room.brief ≡ true
+  pub brief : after.brief ≡ behind old.key room.brief
+  pub long : after.long ≡ room.long
   pub asker : after.asker ≡ room.asker
 
--- what may ask for much, where the last such is answered; nobody behind it asks in the turn.
+-- what may ask for much, in a round of its own.
 pub record IsLong {S : Type 0} (at : ℕ) (old new : Guest S) (room after : Asking) : Type 0 where
-  pub answered : IsAnswered room.talk.desk room.asker
+  pub much : has_brief (unread old.browser.stage) ≡ false
   pub heard : IsHeardNow at old new room.talk after.talk
-  pub some : 0 < room.left
-  pub last : after.left ≡ 0
+  pub turn : is_at old.key room.long ≡ true
+  pub brief : after.brief ≡ room.brief
+  pub long : after.long ≡ behind old.key room.long
   pub asker : after.asker ≡ old.number
 
 -- What may be an act waits where its player has paid too far ahead, until he has not.
@@ -310,9 +363,10 @@ pub record IsAhead {S : Type 0} (at : ℕ) (old new : Guest S) (room after : Ask
   pub guest : new ≡ old
   pub rest : after ≡ record room { next_act = earlier room.next_act (Some (acts_from (paid_for_acts room old))) }
 
--- Or it stays where it is.
+-- Or it stays where it is: it may not be asked, or it is not its turn.
 pub record IsPutOff {S : Type 0} (old new : Guest S) (room after : Asking) : Type 0 where
   pub other : has_act (unread old.browser.stage) ≡ false
+  pub no_turn : MayBeAsked room.talk.desk old → is_turn_of old room.brief room.long ≡ false
   pub guest : new ≡ old
   pub rest : after ≡ room
 
@@ -415,14 +469,16 @@ is_crowded guests = nat_lt others_most (count_by is_unheard guests)
 abbrev pub full_room : Talk → Room
 full_room talk = record { talk = talk; left = others_most }
 
--- In a turn players are served first, each of them, and of what they ask that is no act so much is taken; and then some
--- of those who act for nobody are.
+-- In a turn players are served first, each of them, and of what they ask that is no act so much is taken: what may ask
+-- for much only where who did so last is answered; and then some of those who act for nobody are.
 pub record AreAttended {S : Type 0} (remaining : S → Option (List ℕ)) (site : Site) (at : ℕ) (old new : List (Guest S))
     (talk after : Talk) : Type 0 where
   pub asks : Asks
+  pub is_free : Bool
+  pub free : IsTrue is_free ↔ IsAnswered talk.desk asks.asker
   pub first : List (Guest S)
   pub said : Asking
-  pub players : InTurn (IsPlayersTurn remaining site at) old first (full_asking talk asks) said
+  pub players : InTurn (IsPlayersTurn remaining site at) old first (full_asking is_free (next_name old) talk asks) said
   pub last : Room
   pub others : InTurn (IsOthersTurn remaining site at) first new (full_room said.talk) last
   pub after_is : after ≡ last.talk
@@ -432,12 +488,12 @@ abbrev pub LeavesOthers : {S : Type 0} → {remaining : S → Option (List ℕ)}
     → {old new : List (Guest S)} → {talk after : Talk} → AreAttended remaining site at old new talk after → Type 0
 LeavesOthers {new = new} {after = after} attended = (new ≡ attended.first) × (after ≡ attended.said.talk)
 
--- It is known who asked for much last, and until when each player has paid for his acts.
+-- It is known who asked for much last, where the rounds go on, and until when each player has paid for his acts.
 abbrev pub KnowsAsks : {S : Type 0} → {remaining : S → Option (List ℕ)} → {site : Site} → {at : ℕ}
     → {old new : List (Guest S)} → {talk after : Talk} → Asks → Asks
     → AreAttended remaining site at old new talk after → Type 0
-KnowsAsks before behind attended =
-    (attended.asks ≡ before) × (attended.said ≡ room_of attended.said.talk behind)
+KnowsAsks before kept attended =
+    (attended.asks ≡ before) × (room_of attended.said.talk kept ≡ asking_over attended.said)
 
 -- ---- what goes
 
@@ -459,8 +515,8 @@ pub record IsSaid {S : Type 0} (text : List ℕ) (old new : Guest S) : Type 0 wh
   pub says : SaysTo (Text text) old.browser.stage new.browser.stage answer
   pub lost : new.is_lost ≡ (is_cut answer || old.is_lost)
 
--- The message waits behind what does. One for which more than 1,024 wait is to be closed.
-pub record IsPutBehind {S : Type 0} (made : Message) (old new : Guest S) : Type 0 where
+-- The message waits behind what does, from this moment on. One for which more than 1,024 wait is to be closed.
+pub record IsPutBehind {S : Type 0} (at : ℕ) (made : Message) (old new : Guest S) : Type 0 where
   pub number : new.number ≡ old.number
   pub stream : new.stream ≡ old.stream
   pub browser : new.browser ≡ old.browser
@@ -469,7 +525,7 @@ pub record IsPutBehind {S : Type 0} (made : Message) (old new : Guest S) : Type 
   pub logins : new.logins_until ≡ old.logins_until
   pub lost : new.is_lost ≡ (nat_lt 1024 (length new.waits.items) || old.is_lost)
   pub one : Waiting
-  pub copy : IsCopyOf made one
+  pub copy : IsCopyOf at made one
   pub waits : new.waits.items ≡ old.waits.items ++ one ∷ []
 
 -- Where this text refuses a login of it, its time is taken for that; it is to be closed where that is one too many.
@@ -484,7 +540,7 @@ abbrev pub IsPassedOn : {S : Type 0} → Bool → ℕ → Message → Guest S �
 IsPassedOn false at made old new =
     IsSaid (string_bytes made.text) old new × (new.waits ≡ old.waits)
     × (new.paid_until ≡ paid_for at (string_bytes made.text) old.paid_until)
-IsPassedOn true at made old new = IsPutBehind made old new
+IsPassedOn true at made old new = IsPutBehind at made old new
 
 -- It is noted where a message that is for it refuses a login, and then that is passed on. Where something waits for it,
 -- or the message's answer is not there yet, the message waits behind that.
@@ -552,10 +608,14 @@ abbrev pub AreAnswered : {S : Type 0} → Option KeptAnswer → List (Guest S) �
 AreAnswered None old new = new ≡ old
 AreAnswered (Some answer) old new = (left : ℕ) × InTurn (IsAnsweredAt answer) old new answered_most left
 
--- the text of the first that waits for the first of these browsers for which something does
-abbrev pub first_wanted : {S : Type 0} → List (Guest S) → Option (List ℕ)
+-- of what waits first for each of these browsers that which waits longest
+abbrev pub first_wanted : {S : Type 0} → List (Guest S) → Option Waiting
 first_wanted [] = None
 first_wanted (guest ∷ guests) = first_of (wanted guest.waits.items) (first_wanted guests)
+
+-- and its text
+abbrev pub wanted_text : {S : Type 0} → List (Guest S) → Option (List ℕ)
+wanted_text guests = option_map (λ one. string_bytes one.text) (first_wanted guests)
 
 -- Something waits for one of them, or a replay by which an answer is made is under way.
 abbrev pub has_waiting : {S : Type 0} → List (Guest S) → Talk → Bool
@@ -563,7 +623,7 @@ has_waiting guests talk = is_some talk.replay || is_some (first_wanted guests)
 
 -- At a moment each browser is told those of these messages that are for its connection, whole and in their order, as
 -- they go out; but behind an answer that is not there yet they wait. Then the replay under way goes on, or one begins
--- for the first that waits. Where that brings an answer, the first who waits for it is told it, and what stands behind
+-- for what waits longest. Where that brings an answer, the first who waits for it is told it, and what stands behind
 -- it, up to the next such. One whose socket may say nothing is told nothing, and one for which there is no room or
 -- memory has its socket ended.
 pub record AreDelivered {S : Type 0} (at : ℕ) (kept : List KeptAnswer) (told : List Message)
@@ -573,7 +633,7 @@ pub record AreDelivered {S : Type 0} (at : ℕ) (kept : List KeptAnswer) (told :
   pub first : List (Guest S)
   pub are_told : AllZip (AreTold at made) old first
   pub caught_up : AllZip (IsCaughtUp at) first new
-  pub answers : ∥ ((answer : Option KeptAnswer) × Replays (first_wanted first) replay after answer
+  pub answers : ∥ ((answer : Option KeptAnswer) × Replays (wanted_text first) replay after answer
       × AreAnswered answer first new) ∥₁
 
 -- What was written stood in front of what waits to be written, at most 16,384 bytes of it, and its connection goes on

@@ -1,5 +1,5 @@
 -- Whose turn it is.
-use Rattle.std.specs.Prelude.{ℕ, ◌≡◌, ◌<◌, ◌+◌, ◌⊎◌, Bool, true, false, Some}
+use Rattle.std.specs.Prelude.{ℕ, ◌≡◌, ◌+◌, ◌⊎◌, Bool, true, false, Some}
 use Rattle.lobby_desk.specs.declared.desk.Desk.{Desk}
 use Rattle.lobby_web.specs.Browsing.{unread}
 use Rattle.lobby_talk.specs.Front.{has_act, has_brief, may_be_act}
@@ -8,17 +8,12 @@ use Rattle.lobby_talk.specs.declared.talk.Talk.{Talk}
 use Rattle.lobby_guests.specs.declared.rounds.Asks.{Asks}
 use Rattle.lobby_guests.specs.declared.rounds.Strangers.{Strangers}
 use Rattle.lobby_guests.specs.Paces.{paid_by, may_act, acts_from, PaysIf}
-use Rattle.lobby_guests.specs.Guests.{Room, IsAnswered, IsPaced, IsAhead, earlier}
+use Rattle.lobby_guests.specs.Guests.{Room, MayBeAsked, IsPaced, IsAhead, is_at, behind, is_turn_of, earlier}
 pub use Rattle.lobby_guests.specs.Guests.{room_of}
 
 -- the desk, and how many more who act for nobody are attended in this turn
 abbrev pub others_room : Talk → Strangers → Room
 others_room talk strangers = record { talk = talk; left = strangers.round.left + strangers.fresh }
-
--- Nobody pays for an act, nor does it change from when on the first may be taken that waits.
-pub record KeepsPaces (old new : Asks) : Type 0 where
-  pub paces : new.paces ≡ old.paces
-  pub next_act : new.next_act ≡ old.next_act
 
 -- Whether a player may act; where he may not, his next act is due when he may.
 abbrev pub LetsAct : Bool → ℕ → ℕ → Asks → Asks → Type 0
@@ -27,39 +22,47 @@ LetsAct false player at old new =
     (may_act at (paid_by old.paces player) ≡ false)
     × (new ≡ record old { next_act = earlier old.next_act (Some (acts_from (paid_by old.paces player))) })
 
+-- Nobody has a turn.
+pub record KeepsRounds (old new : Asks) : Type 0 where
+  pub brief : new.brief ≡ old.brief
+  pub long : new.long ≡ old.long
+  pub asker : new.asker ≡ old.asker
+
 -- He pays for an act, if it is one, and nothing else changes.
 pub record PaysAct (is_act : Bool) (player at : ℕ) (old new : Asks) : Type 0 where
   pub pays : PaysIf is_act at player old.paces new.paces
-  pub round : new.round ≡ old.round
-  pub asker : new.asker ≡ old.asker
+  pub rounds : KeepsRounds old new
   pub next_act : new.next_act ≡ old.next_act
 
--- what asks for little takes a turn that is left, and what may ask for much the last, where the last such is answered
-abbrev pub TakesOne : {S : Type 0} → Desk → Guest S → Asks → Asks → Type 0
-TakesOne desk guest old new =
-    (has_brief (unread guest.browser.stage) ≡ true) × (new.round.left < old.round.left) × (new.asker ≡ old.asker)
-    ⊎ IsAnswered desk old.asker × (0 < old.round.left) × (new.round.left ≡ 0) × (new.asker ≡ guest.number)
+-- what asks for little has its turn
+abbrev pub TakesBrief : {S : Type 0} → Guest S → Asks → Asks → Type 0
+TakesBrief guest old new =
+    (has_brief (unread guest.browser.stage) ≡ true) × (is_at guest.key old.brief ≡ true)
+    × (new ≡ record old { brief = behind guest.key old.brief })
 
--- One in whose front no act stands has such a turn, or it has none.
+-- what may ask for much has, and it is known who asked
+abbrev pub TakesLong : {S : Type 0} → Guest S → Asks → Asks → Type 0
+TakesLong guest old new =
+    (has_brief (unread guest.browser.stage) ≡ false) × (is_at guest.key old.long ≡ true)
+    × (new ≡ record old { long = behind guest.key old.long; asker = guest.number })
+
+-- One in whose front no act stands has such a turn; or it may not be asked, or it is not its turn.
 abbrev pub TakesTurn : {S : Type 0} → Bool → Desk → Guest S → Asks → Asks → Type 0
-TakesTurn true desk guest old new = KeepsPaces old new × TakesOne desk guest old new
-TakesTurn false desk guest old new = new ≡ old
+TakesTurn true desk guest old new = TakesBrief guest old new ⊎ TakesLong guest old new
+TakesTurn false desk guest old new =
+    (new ≡ old) × (MayBeAsked desk guest → is_turn_of guest old.brief old.long ≡ false)
 
 -- The same, and an act has its turn at once, and takes nobody's.
 abbrev pub HasTurn : {S : Type 0} → Bool → Desk → Guest S → Asks → Asks → Type 0
 HasTurn true desk guest old new =
     (has_act (unread guest.browser.stage) ≡ true) × (new ≡ old) ⊎ TakesTurn true desk guest old new
-HasTurn false desk guest old new = (has_act (unread guest.browser.stage) ≡ false) × (new ≡ old)
-
-abbrev pub ActsAtOnce : {S : Type 0} → Guest S → Asks → Asks → Type 0
-ActsAtOnce guest old new =
-    (has_act (unread guest.browser.stage) ≡ true) × (new.round.left ≡ old.round.left) × (new.asker ≡ old.asker)
+HasTurn false desk guest old new =
+    (has_act (unread guest.browser.stage) ≡ false) × TakesTurn false desk guest old new
 
 -- One is asked that has its turn, and whose player pays for it where it may be an act; or it waits.
 abbrev pub IsToAsk : {S : Type 0} → Bool → Talk → ℕ → Guest S → Asks → Asks → Type 0
 IsToAsk true talk at guest old new =
     IsPaced at guest (room_of talk old) (room_of talk new)
-    × (ActsAtOnce guest old new ⊎ TakesOne talk.desk guest old new)
+    × (turned : Asks) × HasTurn true talk.desk guest old turned × KeepsRounds turned new
 IsToAsk false talk at guest old new =
-    IsAhead at guest guest (room_of talk old) (room_of talk new)
-    ⊎ (has_act (unread guest.browser.stage) ≡ false) × (new ≡ old)
+    IsAhead at guest guest (room_of talk old) (room_of talk new) ⊎ HasTurn false talk.desk guest old new

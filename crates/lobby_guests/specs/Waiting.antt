@@ -1,5 +1,5 @@
 -- What waits for a browser.
-use Rattle.std.specs.Prelude.{ℕ, ◌≡◌, Bool, true, false, not, List, [], ◌∷◌, Option, None, Some}
+use Rattle.std.specs.Prelude.{ℕ, ◌≡◌, nat_lt, if◌then◌else◌, Bool, true, false, not, List, [], ◌∷◌, Option, None, Some}
 use Rattle.std.specs.String.{string_bytes}
 use Rattle.lobby_desk.specs.declared.telling.Kind.{Kind}
 use Rattle.lobby_desk.specs.declared.telling.Kind.TheVariants.{Whole, Position, Line, Moves, Log}
@@ -15,8 +15,9 @@ is_line Moves = false
 is_line Line = true
 is_line Log = false
 
--- it is this message
-pub record IsCopyOf (made : Message) (one : Waiting) : Type 0 where
+-- it is this message, and waits from this moment on
+pub record IsCopyOf (at : ℕ) (made : Message) (one : Waiting) : Type 0 where
+  pub since : one.since ≡ at
   pub kind : one.kind ≡ made.kind
   pub text : string_bytes one.text ≡ string_bytes made.text
 
@@ -40,12 +41,13 @@ abbrev pub has_whole : List Waiting → Bool
 has_whole [] = false
 has_whole (one ∷ ones) = not (is_line one.kind)
 
--- the text of the first that waits
-abbrev pub wanted : List Waiting → Option (List ℕ)
+-- the first that waits
+abbrev pub wanted : List Waiting → Option Waiting
 wanted [] = None
-wanted (one ∷ ones) = Some (string_bytes one.text)
+wanted (one ∷ ones) = Some one
 
--- the first of two that there is
-abbrev pub first_of : Option (List ℕ) → Option (List ℕ) → Option (List ℕ)
+-- the one of two that waits longer, where there are any; of two that wait as long the first
+abbrev pub first_of : Option Waiting → Option Waiting → Option Waiting
 first_of None b = b
-first_of (Some a) b = Some a
+first_of (Some a) None = Some a
+first_of (Some a) (Some b) = Some (if nat_lt b.since a.since then b else a)

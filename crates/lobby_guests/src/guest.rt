@@ -479,10 +479,10 @@ impl<S> Guest<S> {
     }
 
     // A message waits behind what does. One for which too many wait is let go.
-    fn put_behind(&mut self, alloc: Global, made: &Message) -> Result<(), AllocError>
-        ensures { OnOk result (IsPutBehind made.now self.old self.new) }
+    fn put_behind(&mut self, alloc: Global, made: &Message, at: u64) -> Result<(), AllocError>
+        ensures { OnOk result (IsPutBehind at made.now self.old self.new) }
     {
-        let one = Waiting::copy_of(alloc, made)?;
+        let one = Waiting::copy_of(alloc, made, at)?;
         self.waits.push(one)?;
         if self.waits.len() > WAITING_MOST {
             self.is_lost = true;
@@ -513,7 +513,7 @@ impl<S> Guest<S> {
         counts.note_login(made.text.as_str());
         self.note_login(counts.at, made.text.as_str());
         if self.must_wait(made.kind) {
-            self.put_behind(alloc, made)
+            self.put_behind(alloc, made, counts.at)
         } else {
             self.tell(made.text.as_str(), counts);
             Ok(())
@@ -563,11 +563,11 @@ impl<S> Guest<S> {
         Ok(())
     }
 
-    /// The server's answer to `pgn G` of which the first message that waits is to be made.
-    pub fn wanted(&self) -> Option<&str>
-        ensures { option_map (λ text. text.now) result ≡ waiting.wanted self.now.waits.items }
+    /// The first message that waits.
+    pub fn wanted(&self) -> Option<&Waiting>
+        ensures { option_map (λ one. one.now) result ≡ waiting.wanted self.now.waits.items }
     {
-        Some(self.waits.first()?.text.as_str())
+        self.waits.first()
     }
 
     // Whether what waits first is whole.

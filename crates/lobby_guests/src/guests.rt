@@ -2,17 +2,19 @@
 #![tactic(auto, using(lobby_talk::proofs::Each::zipped_none, lobby_talk::proofs::Each::zipped_vec))]
 
 ghost use Rattle.std.specs.Prelude.{ℕ, Bool, true, false, nat_lt, length, ◌<◌, ◌≡◌, [], List, Option, IfOk, OnOk};
-ghost use Rattle.std.specs.Prelude.{Some, count_by, slice_index_or, slice_set, ◌≢◌};
+ghost use Rattle.std.specs.Prelude.{Some, count_by, slice_index_or, slice_set, ◌≢◌, IsTrue, ◌↔◌};
 ghost use Rattle.std.specs.Option.{option_map};
 ghost use Rattle.std.specs.List.{AllZip, HoldsAt};
 ghost use Rattle.lobby_guests.specs.Counting.{refusals_in, CountsLogins, CountsNoLogin};
 ghost use Rattle.lobby_talk.specs.Counting.{counted_up};
 ghost use Rattle.lobby_guests.specs.Guests as guests;
 ghost use Rattle.lobby_guests.specs.Guests.{IsLeftAlone, IsSettled, IsServed, IsPlayersTurn, IsOthersTurn, InTurn};
-ghost use Rattle.lobby_guests.specs.Guests.{IsPlayerServed, IsAnswered, KnowsAsks, full_asking, Room, full_room};
+ghost use Rattle.lobby_guests.specs.Guests.{IsPlayerServed, IsAnswered, KnowsAsks, Asking, full_asking, asking_over};
+ghost use Rattle.lobby_guests.specs.Guests.{Room, full_room, next_name};
 ghost use Rattle.lobby_guests.specs.Rounds.{room_of, others_room, TakesTurn, HasTurn, IsToAsk};
 ghost use Rattle.lobby_guests.specs.Guests.{AreAttended, AreTold, AreDelivered, IsWritten, IsLookedAfter, IsClosedIf};
 ghost use Rattle.lobby_guests.specs.Guests.{AreClosed, AreParted, IsCaughtUp, AreAnswered, first_wanted, has_waiting};
+ghost use Rattle.lobby_guests.specs.Guests.{wanted_text};
 ghost use Rattle.lobby_guests.specs.Guests.{LeavesOthers, LeavesStranger};
 ghost use Rattle.lobby_guests.specs.Waking.{IsAwake, StaysUnlessNamed, IsAwakeIfNamed, NamesGrow, IsPlaceNamed};
 ghost use Rattle.lobby_guests.specs.Waking.{number_named};
@@ -25,9 +27,8 @@ ghost use Rattle.lobby_talk.specs.Keeping.{AreKept};
 ghost use Rattle.lobby_web.specs.Browsing.{unread};
 
 use crate::guest::Guest;
-use crate::rounds::{
-    ASKED_MOST, ATTENDED_MOST, Asks, Round, Rounds, Strangers, TOLD_MOST, WRITTEN_MOST,
-};
+use crate::rounds::{ATTENDED_MOST, Asks, Round, Rounds, Strangers, TOLD_MOST, WRITTEN_MOST};
+use crate::waiting::Waiting;
 use lobby_desk::Message;
 use lobby_talk::{
     Coming, Counts, KeepsLinks, KeptAnswer, NOTHING_CAME, PIECE_ROOM, Talk, has_act, has_brief,
@@ -63,7 +64,7 @@ fn attend<S: Read + Write, K: KeepsLinks>(
 
 // Whether the server has answered what this connection asked last.
 fn is_answered(asker: Option<u64>, talk: &Talk) -> bool
-    ensures { result ≡ true → IsAnswered talk.now.desk asker }
+    ensures { IsTrue result ↔ IsAnswered talk.now.desk asker }
 {
     match asker {
         None => true,
@@ -71,23 +72,22 @@ fn is_answered(asker: Option<u64>, talk: &Talk) -> bool
     }
 }
 
-// Whether a player's browser in whose front no act stands has its turn; then it has it: one that may ask for much only
-// where the last such is answered.
+// Whether a player's browser in whose front no act stands has its turn; then it has it: in the round of those that ask
+// for little, or of those that may ask for much.
 fn takes_turn<S>(guest: &Guest<S>, asks: &mut Asks, talk: &Talk) -> bool
     ensures { TakesTurn result talk.now.desk guest.now asks.old asks.new }
 {
-    if !asks.round.is_at(guest.key()) || !guest.may_be_asked(talk) {
+    if !guest.may_be_asked(talk) {
         return false;
     }
     if has_brief(guest.unread()) {
-        asks.round.take(guest.key());
-        return true;
+        return asks.brief.take(guest.key());
     }
-    let is_free = is_answered(asks.asker, talk);
-    if is_free {
-        asks.take_long(guest.key(), guest.number());
+    if !asks.long.take(guest.key()) {
+        return false;
     }
-    is_free
+    asks.asker = guest.number();
+    true
 }
 
 // Whether it is the turn of a player's browser: where an act stands in front at once, and else where one is left; then
@@ -173,6 +173,16 @@ fn attend_player<S: Read + Write, K: KeepsLinks>(
     serve_player(guest, asks, site, talk, at, links, piece, coming)
 }
 
+// The name behind that of who came last: who comes then has that or a later one.
+fn next_key<S>(guests: &[Guest<S>]) -> usize
+    ensures { result ≡ next_name guests.now }
+{
+    match guests.last() {
+        None => 0,
+        Some(guest) => guest.key().saturating_add(1),
+    }
+}
+
 // Attends each that acts for a player. It tells whether there was anything, or more can be taken at once.
 fn attend_players<S: Read + Write, K: KeepsLinks>(
     guests: &mut Vec<Guest<S>>,
@@ -184,17 +194,20 @@ fn attend_players<S: Read + Write, K: KeepsLinks>(
     piece: &mut [u8; PIECE_ROOM],
     coming: &mut Coming,
 ) -> Result<bool, AllocError>
-    ensures { OnOk result (InTurn (IsPlayersTurn S.remaining site.now at) guests.old.items guests.new.items
-        (full_asking talk.old asks.old) (room_of talk.new asks.new)) }
+    ensures { OnOk result ((is_free : Bool) × (IsTrue is_free ↔ IsAnswered talk.old.desk asks.old.asker)
+        × (said : Asking) × InTurn (IsPlayersTurn S.remaining site.now at) guests.old.items guests.new.items
+        (full_asking is_free (next_name guests.old.items) talk.old asks.old) said × (room_of talk.new asks.new ≡ asking_over said)) }
 {
     let mut any = false;
-    asks.round.begin(ASKED_MOST);
-    asks.next_act = None;
+    let is_free = is_answered(asks.asker, talk);
+    let next = next_key(guests.as_slice());
+    asks.begin(is_free, next);
     for guest in guests.iter_mut() {
         any |= attend_player(guest, asks, site, talk, at, links, piece, coming)?;
     }
-    let can_more = asks.round.end();
-    Ok(any | can_more)
+    let can_brief = asks.brief.end();
+    let can_long = asks.long.end();
+    Ok(any | can_brief | is_free & can_long)
 }
 
 // Attends a browser if it acts for nobody, and it is its turn.
@@ -235,7 +248,8 @@ fn attend_others<S: Read + Write, K: KeepsLinks>(
         × InTurn (IsOthersTurn S.remaining site.now at) guests.old.items guests.new.items (full_room talk.old) room) }
 {
     let mut any = false;
-    strangers.begin(count_unheard(guests.as_slice()));
+    let next = next_key(guests.as_slice());
+    strangers.begin(count_unheard(guests.as_slice()), next);
     for guest in guests.iter_mut() {
         any |= attend_other(guest, strangers, site, talk, at, links, piece, coming)?;
     }
@@ -328,26 +342,37 @@ fn tell_all<S>(
     Ok(())
 }
 
-// The first of two texts that there is.
-fn first_of<'a>(a: Option<&'a str>, b: Option<&'a str>) -> Option<&'a str>
-    ensures { option_map (λ text. text.now) result
-        ≡ waiting.first_of (option_map (λ text. text.now) a.entry) (option_map (λ text. text.now) b.entry) }
+// The one of two messages that waits longer, where there are any.
+fn first_of<'a>(a: Option<&'a Waiting>, b: Option<&'a Waiting>) -> Option<&'a Waiting>
+    ensures { option_map (λ one. one.now) result
+        ≡ waiting.first_of (option_map (λ one. one.now) a.entry) (option_map (λ one. one.now) b.entry) }
 {
-    match a {
-        Some(text) => Some(text),
-        None => b,
+    match (a, b) {
+        (Some(a), Some(b)) => Some(if b.since < a.since { b } else { a }),
+        (Some(a), None) => Some(a),
+        (None, b) => b,
     }
 }
 
-// The server's answer to `pgn G` that is to be made next: the first that waits of the first browser of which one does.
-fn first_wanted<S>(guests: &[Guest<S>]) -> Option<&str>
-    ensures { option_map (λ text. text.now) result ≡ first_wanted guests.now }
+// What is to be told next: of what waits first of each browser that which waits longest.
+fn first_wanted<S>(guests: &[Guest<S>]) -> Option<&Waiting>
+    ensures { option_map (λ one. one.now) result ≡ first_wanted guests.now }
 {
-    let mut first: Option<&str> = None;
+    let mut first: Option<&Waiting> = None;
     for guest in guests {
         first = first_of(first, guest.wanted());
     }
     first
+}
+
+// The server's answer to `pgn G` that is to be made next.
+fn wanted_text<S>(guests: &[Guest<S>]) -> Option<&str>
+    ensures { option_map (λ text. text.now) result ≡ wanted_text guests.now }
+{
+    match first_wanted(guests) {
+        None => None,
+        Some(one) => Some(one.text.as_str()),
+    }
 }
 
 // The first who waits for this answer first is told it.
@@ -362,7 +387,7 @@ fn answer_all<S>(guests: &mut Vec<Guest<S>>, answer: &KeptAnswer, counts: &mut C
     }
 }
 
-// A replay goes on for the first who waits. Where its answer is there, the first who waits for it is told it.
+// A replay goes on for who waits longest. Where its answer is there, the first who waits for it is told it.
 fn answer_waiting<S>(
     guests: &mut Vec<Guest<S>>,
     talk: &mut Talk,
@@ -370,12 +395,12 @@ fn answer_waiting<S>(
 ) -> Result<(), AllocError>
     ensures up { OnOk result (AllZip (IsCaughtUp counts.old.at) guests.old.items guests.new.items) }
     ensures answers { OnOk result (∥ ((answer : Option KeptAnswerValue)
-        × Replays (first_wanted guests.old.items) talk.old.replay talk.new.replay answer
+        × Replays (wanted_text guests.old.items) talk.old.replay talk.new.replay answer
         × AreAnswered answer guests.old.items guests.new.items) ∥₁) }
     ensures rest { OnOk result (IsTalkAsBefore talk.old talk.new) }
     ensures counts { OnOk result (CountsNoLogin counts.old counts.new) }
 {
-    match talk.replay_on(first_wanted(guests.as_slice()))? {
+    match talk.replay_on(wanted_text(guests.as_slice()))? {
         None => Ok(()),
         Some(answer) => {
             answer_all(guests, &answer, counts);
@@ -429,11 +454,7 @@ fn has_players_turn<S>(guest: &Guest<S>, talk: &Talk, round: &mut Round) -> bool
     if guest.to_write() <= LITTLE {
         return true;
     }
-    let is_turn = round.is_at(guest.key());
-    if is_turn {
-        round.take(guest.key());
-    }
-    is_turn
+    round.take(guest.key())
 }
 
 // Writes to each that acts for a player what it takes, where that is much to some of them. It tells whether that was
@@ -448,7 +469,7 @@ fn write_players<S: Read + Write>(
     ensures strangers { AllZip (LeavesStranger talk.now.desk) guests.old.items guests.new.items }
 {
     let mut any = false;
-    round.begin(TOLD_MOST);
+    round.begin(TOLD_MOST, next_key(guests.as_slice()));
     for guest in guests.iter_mut() {
         let is_turn = has_players_turn(guest, talk, round);
         any |= guest.write_out(site, is_turn);
@@ -467,14 +488,9 @@ fn write_others<S: Read + Write>(
     ensures { AllZip (IsWritten S.contents site.now) guests.old.items guests.new.items }
 {
     let mut any = false;
-    round.begin(WRITTEN_MOST);
+    round.begin(WRITTEN_MOST, next_key(guests.as_slice()));
     for guest in guests.iter_mut() {
-        let is_turn = round.is_at(guest.key())
-            && guest.to_write() > 0
-            && !talk.acts(guest.number());
-        if is_turn {
-            round.take(guest.key());
-        }
+        let is_turn = guest.to_write() > 0 && !talk.acts(guest.number()) && round.take(guest.key());
         any |= guest.write_out(site, is_turn);
     }
     let can_more = round.end();

@@ -1,9 +1,9 @@
 //! Whose turn it is where a turn of the lobby does not do what is to be done for all: a few in each, in a round.
-ghost use Rattle.std.specs.Prelude.{ℕ, ◌≡◌, ◌<◌, ◌≤◌, ◌+◌, ◌-◌, ◌*◌, ◌^◌, ◌&&◌, nat_lt, nat_le, true, false, OnOk};
+ghost use Rattle.std.specs.Prelude.{ℕ, ◌≡◌, ◌<◌, ◌≤◌, ◌+◌, ◌-◌, ◌*◌, ◌^◌, true, false, OnOk};
 ghost use Rattle.std.specs.Prelude.{List, length};
-ghost use Rattle.lobby_guests.specs.Guests.{others_most};
+ghost use Rattle.lobby_guests.specs.Guests.{others_most, is_at, behind, begun, over, begun_asks};
 ghost use Rattle.lobby_guests.specs.Paces.{paid_by, ActsAt, AreBetween};
-ghost use Rattle.lobby_guests.specs.Rounds.{KeepsPaces, LetsAct, PaysAct};
+ghost use Rattle.lobby_guests.specs.Rounds.{LetsAct, PaysAct};
 
 use crate::guests::earlier;
 use std::alloc::{AllocError, Global};
@@ -16,8 +16,8 @@ pub const ATTENDED_MOST: usize = 8;
 /// show a token is heard soon then, whatever the others do.
 const FRESH_MOST: usize = 6;
 
-/// So many messages of players that are no acts are taken in a turn at most.
-pub const ASKED_MOST: usize = 8;
+/// So many messages of players that ask for little are taken in a turn at most.
+const BRIEF_MOST: usize = 7;
 
 /// An act takes so many milliseconds of a player's time, and so many of it may be taken ahead before his next one is
 /// taken.
@@ -34,8 +34,10 @@ pub const WRITTEN_MOST: usize = 16;
 /// A round, by the names of their sockets.
 #[derive(Clone, Copy)]
 pub struct Round {
-    // The turn is that of who has this name or a later one.
+    // The turn is that of who has this name or a later one,
     from: usize,
+    // and an earlier one than this: who comes while a round goes on waits for the next one.
+    to: usize,
     // Whether those before it had no turn.
     has_passed: bool,
     // How many more have a turn.
@@ -43,34 +45,37 @@ pub struct Round {
 }
 
 impl Round {
-    /// So many have a turn from now on.
-    pub fn begin(&mut self, most: usize)
-        ensures { self.new.left ≡ most }
+    /// So many have a turn from now on. Nobody has this name or a later one so far: a round that begins is that of who
+    /// is there.
+    pub fn begin(&mut self, most: usize, next: usize)
+        ensures { self.new ≡ begun most next self.old }
     {
         self.has_passed = self.from > 0;
+        if !self.has_passed {
+            self.to = next;
+        }
         self.left = most;
     }
 
-    /// Whether it may be the turn of this one.
-    pub fn is_at(&self, key: usize) -> bool
-        ensures some { result ≡ true → 0 < self.now.left }
-        ensures turn { result ≡ (nat_lt 0 self.now.left && nat_le self.now.from key) }
+    /// Whether it is the turn of this one; then it has it.
+    pub fn take(&mut self, key: usize) -> bool
+        ensures turn { result ≡ is_at key self.old }
+        ensures some { result ≡ true → self.new.left < self.old.left }
+        ensures taken { result ≡ true → self.new ≡ behind key self.old }
+        ensures passed { result ≡ false → self.new ≡ self.old }
     {
-        self.left > 0 && key >= self.from
+        let is_turn = self.left > 0 && key >= self.from && key < self.to;
+        if is_turn {
+            self.left -= 1;
+            self.from = key.saturating_add(1);
+        }
+        is_turn
     }
 
-    /// This one has its turn.
-    pub fn take(&mut self, key: usize)
-        requires { 0 < self.old.left }
-        ensures { self.new.left < self.old.left }
-    {
-        self.left -= 1;
-        self.from = key.saturating_add(1);
-    }
-
-    /// All had a turn who could have one. It tells whether others can at once.
+    /// All had a turn who could have one: it begins anew with the first just where more could have had one. It tells
+    /// whether others can at once.
     pub fn end(&mut self) -> bool
-        ensures { self.new.left ≡ self.old.left }
+        ensures { self.new ≡ over self.old }
     {
         if self.left == 0 {
             return true;
@@ -83,8 +88,11 @@ impl Round {
 /// Whose turn it is among players to ask what is no act, and who may act.
 #[derive(Drop)]
 pub struct Asks {
-    pub round: Round,
-    /// The number at the desk of the connection that asked last.
+    /// Of those that ask for little.
+    pub brief: Round,
+    /// Of those that may ask for much: one in a turn, and none while the last such is not answered.
+    pub long: Round,
+    /// The number at the desk of the connection that asked for much last, until that is answered.
     pub asker: Option<u64>,
     /// Until when each player has paid for his acts, in milliseconds, over all connections that act for him: by the
     /// number of his name.
@@ -94,16 +102,19 @@ pub struct Asks {
 }
 
 impl Asks {
-    /// A connection of this number, whose socket has this name, may ask for much: nobody behind it asks in this turn.
-    pub fn take_long(&mut self, key: usize, number: Option<u64>)
-        requires { 0 < self.old.round.left }
-        ensures left { self.new.round.left ≡ 0 }
-        ensures asker { self.new.asker ≡ number }
-        ensures paces { KeepsPaces self.old self.new }
+    /// A turn begins, in which one may ask for much just where who did last is answered: who that was is forgotten.
+    /// Nobody has this name or a later one so far.
+    pub fn begin(&mut self, is_free: bool, next: usize)
+        ensures { self.new ≡ begun_asks is_free next self.old }
     {
-        self.round.take(key);
-        self.round.left = 0;
-        self.asker = number;
+        self.next_act = None;
+        self.brief.begin(BRIEF_MOST, next);
+        if is_free {
+            self.asker = None;
+            self.long.begin(1, next);
+        } else {
+            self.long.begin(0, next);
+        }
     }
 
     // Until when this player has paid.
@@ -152,12 +163,13 @@ pub struct Strangers {
 }
 
 impl Strangers {
-    /// Some of them have a turn from now on, of whom so many were not heard yet.
-    pub fn begin(&mut self, unheard: usize)
+    /// Some of them have a turn from now on, of whom so many were not heard yet. Nobody has this name or a later one so
+    /// far.
+    pub fn begin(&mut self, unheard: usize, next: usize)
         ensures { self.new.round.left + self.new.fresh ≡ others_most }
     {
         self.fresh = unheard.min(FRESH_MOST);
-        self.round.begin(ATTENDED_MOST - self.fresh);
+        self.round.begin(ATTENDED_MOST - self.fresh, next);
     }
 
     /// Whether it is the turn of one whose socket has this name, and of whom nothing was heard yet, or not; then it has
@@ -170,11 +182,7 @@ impl Strangers {
             self.fresh -= 1;
             return true;
         }
-        let is_turn = self.round.is_at(key);
-        if is_turn {
-            self.round.take(key);
-        }
-        is_turn
+        self.round.take(key)
     }
 }
 
@@ -197,12 +205,14 @@ impl Rounds {
     {
         let round = Round {
             from: 0,
+            to: 0,
             has_passed: false,
             left: 0,
         };
         Rounds {
             asks: Asks {
-                round,
+                brief: round,
+                long: round,
                 asker: None,
                 paces: BTreeMap::new(alloc),
                 next_act: None,

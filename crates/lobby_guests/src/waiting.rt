@@ -11,17 +11,20 @@ use std::alloc::{AllocError, Global};
 pub struct Waiting {
     pub kind: Kind,
     pub text: String,
+    /// Since when it waits, in milliseconds.
+    pub since: u64,
 }
 
 impl Waiting {
-    /// A message, in memory of its own. It fails where memory is refused.
-    pub fn copy_of(alloc: Global, made: &Message) -> Result<Waiting, AllocError>
-        ensures { IfOk result (IsCopyOf made.now) }
+    /// A message that waits from this moment on, in memory of its own. It fails where memory is refused.
+    pub fn copy_of(alloc: Global, made: &Message, at: u64) -> Result<Waiting, AllocError>
+        ensures { IfOk result (IsCopyOf at made.now) }
     {
         let text = String::from_str(alloc, made.text.as_str())?;
         Ok(Waiting {
             kind: made.kind,
             text,
+            since: at,
         })
     }
 }

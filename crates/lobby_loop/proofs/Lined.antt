@@ -9,7 +9,7 @@ use Rattle.lobby_talk.specs.declared.talk.Talk.{Talk}
 use Rattle.lobby_guests.specs.declared.guest.Guest.{Guest}
 use Rattle.lobby_guests.specs.declared.waiting.Waiting.{Waiting}
 use Rattle.lobby_guests.specs.Waiting.{is_line, must_wait, AtLine}
-use Rattle.lobby_guests.specs.Guests.{IsAsBefore, IsHeard, IsAttended, InTurn, full_room, full_asking, IsPassedOn, IsGivenIf, AreTold, IsCaughtUp, IsWritten, IsLookedAfter, IsSettled}
+use Rattle.lobby_guests.specs.Guests.{IsAsBefore, IsHeard, IsAttended, InTurn, full_room, full_asking, next_name, IsPassedOn, IsGivenIf, AreTold, IsCaughtUp, IsWritten, IsLookedAfter, IsSettled}
 use Rattle.lobby_guests.proofs.Attending.{players_pass, others_pass}
 use Rattle.lobby_loop.specs.declared.hall.Hall.{Hall}
 use Rattle.lobby_loop.specs.Turning.{HasTurned, is_look_time}
@@ -89,7 +89,7 @@ module _ {S : Type 0} where
       let passes = takes.attends in
       let players = attended_lines remaining old.site at old.guests.items passes.first takes.parted passes.said.talk
       (players_pass remaining old.site at old.guests.items passes.first
-      (full_asking takes.parted passes.asks) passes.said passes.players) are in
+      (full_asking passes.is_free (next_name old.guests.items) takes.parted passes.asks) passes.said passes.players) are in
       let attended = attended_lines remaining old.site at passes.first takes.attended passes.said.talk passes.last.talk
       (others_pass remaining old.site at passes.first takes.attended (full_room passes.said.talk) passes.last passes.others) players in
       let looked = lines_by (IsLookedAfter turn.between.talk.desk (is_look_time at old) at) (λ x y one. same_line x y one.waits)

@@ -29,7 +29,7 @@ use Rattle.lobby_talk.specs.declared.link.Link.{Link}
 use Rattle.lobby_talk.specs.declared.talk.Talk.{Talk}
 use Rattle.lobby_talk.specs.declared.under_way.UnderWay.{UnderWay}
 use Rattle.lobby_talk.specs.Talking.{Saying, InTime, TooFast, WithLink, saying, Moves}
-use Rattle.lobby_guests.specs.Guests.{full_asking}
+use Rattle.lobby_guests.specs.Guests.{full_asking, next_name}
 use Rattle.lobby_guests.proofs.Attending.{players_pass, others_pass}
 use Rattle.lobby_guests.specs.Guests.{IsNewGuest, IsHeardAs, IsAsBefore, IsLeftAlone, IsSettled, IsAttended, InTurn, full_room, IsLookedAfter, AreTold, AreNextTold, IsCaughtUp, AreDelivered, IsWritten, IsClosedIf, AreClosed}
 use Rattle.lobby_talk.specs.Lines.{bytes_of as bytes_before, AreHeard}
@@ -1157,7 +1157,7 @@ module _ {S : Type 0} (remaining contents : S → Option (List ℕ)) (players : 
       }) so_far in
       let passes = t.takes.attends in
       let one = attended_pass at former base out site old.guests.items passes.first t.takes.parted passes.said.talk own two
-      (players_pass remaining site at old.guests.items passes.first (full_asking t.takes.parted passes.asks)
+      (players_pass remaining site at old.guests.items passes.first (full_asking passes.is_free (next_name old.guests.items) t.takes.parted passes.asks)
       passes.said passes.players) in
       let said = subst (λ (u : Talk). IsTalkAt players is_paused base out
       (Two remaining contents site came players is_paused former base out [] t.takes.attended) u

@@ -1,11 +1,11 @@
--- The replay goes on for the first who waits.
+-- The replay goes on for who waits longest.
 use Rattle.std.proofs.Common.{List, Option, ℕ, refl, ap, sym, subst, ◌∙◌}
 use Rattle.std.proofs.Math.Logic.{∥∥₁_map}
 use Rattle.std.proofs.lemmas.Result.{on_ok_weaker}
 use Rattle.lobby_talk.specs.declared.kept_answer.KeptAnswer.{KeptAnswer}
 use Rattle.lobby_talk.specs.declared.under_way.UnderWay.{UnderWay}
 use Rattle.lobby_talk.specs.Replaying.{Replays}
-use Rattle.lobby_guests.specs.Guests.{first_wanted, AreAnswered}
+use Rattle.lobby_guests.specs.Guests.{wanted_text, AreAnswered}
 use Rattle.lobby_guests.proofs.Catching.{all_caught_none}
 use Rattle.lobby_guests.proofs.guests.answer_waiting.Goals as goal
 
@@ -16,7 +16,7 @@ pub returns-in-None-clause-answers : goal.returns-in-None-clause-answers
 returns-in-None-clause-answers g c =
     let old = c.args.talk.now.replay in
     let now = c.replay_on.new.self.replay in
-    let next = c.first_wanted.ensures ∙ ap first_wanted c.as_slice.ensures.value in
+    let next = c.wanted_text.ensures ∙ ap wanted_text c.as_slice.ensures.value in
     ∥∥₁_map c.in_ok-replay_on.ensures.replays
     (λ goes. (
       c.in_ok-replay_on.field-0,
@@ -28,8 +28,8 @@ pub returns-in-Some-clause-answers : goal.returns-in-Some-clause-answers
 returns-in-Some-clause-answers g c =
     let old = c.args.talk.now.replay in
     let now = c.replay_on.new.self.replay in
-    let next = c.first_wanted.ensures ∙ ap first_wanted c.as_slice.ensures.value in
-    let first = first_wanted c.args.guests.now.items in
+    let next = c.wanted_text.ensures ∙ ap wanted_text c.as_slice.ensures.value in
+    let first = wanted_text c.args.guests.now.items in
     on_ok_weaker c.keep.result (λ same.
     subst (λ (r : Option UnderWay). ∥ ((answer : Option KeptAnswer) × Replays first old r answer
     × AreAnswered answer c.args.guests.now.items c.answer_all.new.guests.items) ∥₁) (sym same)

@@ -1,9 +1,11 @@
 -- One browser more.
-use Rattle.std.proofs.Common.{ℕ, ◌<◌, ◌∙◌, List, None, length, subst, sym, arith}
+use Rattle.std.proofs.Common.{ℕ, ◌<◌, ◌∙◌, List, length, ap, subst, sym, arith}
 use Rattle.std.proofs.lemmas.List.{with_items_is}
 use Rattle.std.specs.Vec.{with_items}
 use Rattle.lobby_guests.specs.declared.guest.Guest.{Guest}
-use Rattle.lobby_guests.specs.Guests.{InTurn, IsPlayersTurn, Asking, full_asking}
+use Rattle.lobby_guests.specs.declared.rounds.Asks.{Asks}
+use Rattle.lobby_guests.specs.declared.rounds.Round.{Round}
+use Rattle.lobby_guests.specs.Guests.{InTurn, IsPlayersTurn, Asking, full_asking, begun_asks, next_name, over}
 use Rattle.lobby_guests.specs.Rounds.{room_of}
 use Rattle.lobby_guests.proofs.EachGuest.{IsTurnedTo, turned_none, turned_further, turned_all}
 use Rattle.lobby_guests.proofs.guests.attend_players.Goals as goal
@@ -11,14 +13,12 @@ use Rattle.lobby_guests.proofs.guests.attend_players.Goals as goal
 pub loop-guest-init : goal.loop-guest-init
 loop-guest-init g c =
     let does = IsPlayersTurn g.S.Read.remaining c.args.site.now c.args.at in
-    let begun : Asking = full_asking c.args.talk.now c.args.asks.now in
-    subst (λ (n : ℕ). IsTurnedTo does 0 c.args.guests.now.items c.deref_mut-guest-items.result.now begun (record {
-      talk = c.args.talk.now;
-      left = n;
-      asker = c.args.asks.now.asker;
-      paces = c.args.asks.now.paces;
-      next_act = None;
-    })) (sym c.begin.ensures)
+    let begun : Asking = full_asking c.is_answered-is_free.result (next_name c.args.guests.now.items) c.args.talk.now c.args.asks.now in
+    let next = c.next_key-next.ensures ∙ ap next_name c.as_slice.ensures.value in
+    let begins = c.begin.ensures
+    ∙ ap (λ (n : ℕ). begun_asks c.is_answered-is_free.result n c.args.asks.now) next in
+    subst (λ (a : Asks). IsTurnedTo does 0 c.args.guests.now.items c.deref_mut-guest-items.result.now begun
+    (room_of c.args.talk.now a)) (sym begins)
     (turned_none does c.args.guests.now.items c.deref_mut-guest-items.result.now begun
     c.deref_mut-guest-items.ensures.value)
 
@@ -28,7 +28,8 @@ loop-guest-preserved g c =
     let lt : c.loop-guest.guest-index < length items =
     omega (arith, c.loop-guest-test.true, c.loop-guest.auto.guest-items) in
     turned_further (IsPlayersTurn g.S.Read.remaining c.args.site.now c.args.at) c.args.guests.now.items items
-    c.loop-guest.guest-index c.guest-item.result c.attend_player.new.guest (full_asking c.args.talk.now c.args.asks.now)
+    c.loop-guest.guest-index c.guest-item.result c.attend_player.new.guest
+    (full_asking c.is_answered-is_free.result (next_name c.args.guests.now.items) c.args.talk.now c.args.asks.now)
     (room_of c.loop-guest.talk c.loop-guest.asks) (room_of c.attend_player.new.talk c.attend_player.new.asks) lt
     c.loop-guest.invariant c.in_ok-any.ensures
 
@@ -39,15 +40,15 @@ returns g c =
     let so_far = c.loop-guest.invariant in
     let same = with_items_is guests items (so_far.whole ∙ sym guests.ok.0) in
     let does = IsPlayersTurn g.S.Read.remaining c.args.site.now c.args.at in
-    let begun : Asking = full_asking c.args.talk.now c.args.asks.now in
-    let last = room_of c.loop-guest.talk c.loop-guest.asks in
-    subst (λ (n : ℕ). InTurn does guests.items (with_items guests items).items begun (record {
-      talk = c.loop-guest.talk;
-      left = n;
-      asker = c.loop-guest.asks.asker;
-      paces = c.loop-guest.asks.paces;
-      next_act = c.loop-guest.asks.next_act;
-    })) (sym c.end-can_more.ensures)
-    (subst (λ (l : List (Guest g.row.S.Denot)). InTurn does guests.items l begun last) (sym same)
-    (turned_all does c.loop-guest.guest-index guests.items items begun last
-    (omega (arith, c.loop-guest-test.false, c.loop-guest.auto.guest-items)) so_far))
+    let begun : Asking = full_asking c.is_answered-is_free.result (next_name c.args.guests.now.items) c.args.talk.now c.args.asks.now in
+    let asks = c.loop-guest.asks in
+    let last = room_of c.loop-guest.talk asks in (
+      c.is_answered-is_free.result,
+      c.is_answered-is_free.ensures,
+      last,
+      subst (λ (l : List (Guest g.row.S.Denot)). InTurn does guests.items l begun last) (sym same)
+          (turned_all does c.loop-guest.guest-index guests.items items begun last
+          (omega (arith, c.loop-guest-test.false, c.loop-guest.auto.guest-items)) so_far),
+      ap (λ (r : Round). record last { brief = r; long = c.end-can_long.new.self }) c.end-can_brief.ensures
+          ∙ ap (λ (r : Round). record last { brief = over asks.brief; long = r }) c.end-can_long.ensures,
+    )

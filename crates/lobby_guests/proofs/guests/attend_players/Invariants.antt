@@ -1,5 +1,5 @@
 -- To those so far it is done, and the others are as they were.
-use Rattle.lobby_guests.specs.Guests.{IsPlayersTurn, full_asking}
+use Rattle.lobby_guests.specs.Guests.{IsPlayersTurn, full_asking, next_name}
 use Rattle.lobby_guests.specs.Rounds.{room_of}
 use Rattle.lobby_guests.proofs.EachGuest.{IsTurnedTo}
 use Rattle.lobby_guests.proofs.guests.attend_players.Given as goal
@@ -7,4 +7,4 @@ use Rattle.lobby_guests.proofs.guests.attend_players.Given as goal
 abbrev pub invariant-loop-guest : goal.invariant-loop-guest
 invariant-loop-guest g l =
     IsTurnedTo (IsPlayersTurn g.S.Read.remaining l.site l.at) l.guest-index l.fn.guests.items l.guest-items
-    (full_asking l.fn.talk l.fn.asks) (room_of l.talk l.asks)
+    (full_asking l.is_free (next_name l.fn.guests.items) l.fn.talk l.fn.asks) (room_of l.talk l.asks)

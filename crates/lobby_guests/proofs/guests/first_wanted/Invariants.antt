@@ -1,4 +1,4 @@
--- The first of those so far and of the rest is that of all.
+-- Of those so far and of the rest that which waits longest does so of all.
 use Rattle.std.proofs.Common.{◌≡◌, drop}
 use Rattle.std.specs.Option.{option_map}
 use Rattle.lobby_guests.specs.Guests.{first_wanted}
@@ -7,4 +7,4 @@ use Rattle.lobby_guests.proofs.guests.first_wanted.Given as goal
 
 abbrev pub invariant-loop-guest : goal.invariant-loop-guest
 invariant-loop-guest g l =
-    first_of (option_map (λ text. text.now) l.first) (first_wanted (drop l.guest-index l.guests)) ≡ first_wanted l.guests
+    first_of (option_map (λ one. one.now) l.first) (first_wanted (drop l.guest-index l.guests)) ≡ first_wanted l.guests

@@ -1,5 +1,5 @@
 -- It is read for first, and then heard, or what stands in front waits.
-use Rattle.std.proofs.Common.{Bool, true, false, inl, inr, refl, ap, subst}
+use Rattle.std.proofs.Common.{◌∙◌, Bool, true, false, inl, inr, refl, ap, subst}
 use Rattle.lobby_guests.specs.declared.rounds.Asks.{Asks}
 use Rattle.lobby_guests.specs.Guests.{IsHeardNow, IsPaced, IsPlayerHeard}
 use Rattle.lobby_guests.specs.Rounds.{room_of, IsToAsk}
@@ -14,10 +14,11 @@ returns-then-not-is_asked g c =
     subst (λ (b : Bool). IsToAsk b talk c.args.at read c.args.asks.now asks) c.if-not-is_asked.true c.in_ok-is_asked.ensures in
     let hears : IsPlayerHeard c.args.at read read (room_of talk c.args.asks.now) (room_of talk asks) = elim asked [
       | inl ahead ↦ inr (inl ahead)
-      | inr (other, same) ↦ inr (inr (record {
+      | inr (other, off) ↦ inr (inr (record {
         other = other;
+        no_turn = off.1;
         guest = refl;
-        rest = ap (λ (a : Asks). room_of talk a) same;
+        rest = ap (λ (a : Asks). room_of talk a) off.0;
       }))
     ] in
     record {
@@ -35,6 +36,7 @@ returns g c =
     let asked : IsToAsk true talk c.args.at read c.args.asks.now asks =
     subst (λ (b : Bool). IsToAsk b talk c.args.at read c.args.asks.now asks) c.if-not-is_asked.false
     c.in_ok-is_asked.ensures in
+    let rounds = asked.3 in
     let paced : IsPaced c.args.at read (room_of talk c.args.asks.now) (room_of c.hear.new.talk asks) = record {
       in_time = asked.0.in_time;
       is_taken = asked.0.is_taken;
@@ -49,26 +51,38 @@ returns g c =
       owes = c.in_ok-has_heard.ensures.owes;
     } in
     let hears : IsPlayerHeard c.args.at read c.hear.new.self (room_of talk c.args.asks.now) (room_of c.hear.new.talk asks) =
-    elim asked.1 [
-      | inl (act, left, asker) ↦ inl (paced, inl (record { act = act; heard = heard; left = left; asker = asker }))
+    elim asked.2 [
+      | inl (act, same) ↦ inl (
+        paced,
+        inl (record {
+          act = act;
+          heard = heard;
+          brief = rounds.brief ∙ ap (λ (a : Asks). a.brief) same;
+          long = rounds.long ∙ ap (λ (a : Asks). a.long) same;
+          asker = rounds.asker ∙ ap (λ (a : Asks). a.asker) same;
+        }),
+      )
       | inr one ↦ elim one [
-        | inl (brief, less, asker) ↦ inl (
+        | inl (little, turn, is) ↦ inl (
           paced,
           inr (inl (record {
-            brief = brief;
+            little = little;
             heard = heard;
-            takes = less;
-            asker = asker;
+            turn = turn;
+            brief = rounds.brief ∙ ap (λ (a : Asks). a.brief) is;
+            long = rounds.long ∙ ap (λ (a : Asks). a.long) is;
+            asker = rounds.asker ∙ ap (λ (a : Asks). a.asker) is;
           })),
         )
-        | inr (answered, some, last, asker) ↦ inl (
+        | inr (much, turn, is) ↦ inl (
           paced,
           inr (inr (record {
-            answered = answered;
+            much = much;
             heard = heard;
-            some = some;
-            last = last;
-            asker = asker;
+            turn = turn;
+            brief = rounds.brief ∙ ap (λ (a : Asks). a.brief) is;
+            long = rounds.long ∙ ap (λ (a : Asks). a.long) is;
+            asker = rounds.asker ∙ ap (λ (a : Asks). a.asker) is;
           })),
         )
       ]

@@ -1,7 +1,7 @@
 -- It is noted, and then told or put behind what waits.
 use Rattle.std.proofs.Common.{ℕ, List, true, false, ap, subst, sym, ◌∙◌}
 use Rattle.std.proofs.lemmas.Result.{on_ok_weaker}
-use Rattle.lobby_guests.specs.Guests.{NotesLogin, IsSaid, paid_for}
+use Rattle.lobby_guests.specs.Guests.{NotesLogin, IsPutBehind, IsSaid, paid_for}
 use Rattle.lobby_guests.proofs.Catching.{told_on}
 use Rattle.lobby_guests.proofs.guest.Guest.pass_on.Goals as goal
 
@@ -14,7 +14,9 @@ returns-then-must_wait-clause-told g c =
     (subst (λ (n : ℕ). NotesLogin n c.as_str-2.result.now old mid) c.note_login.ensures.at c.note_login-2.ensures) in
     on_ok_weaker c.put_behind.result
     (λ put. told_on at c.args.made.now old mid c.put_behind.new.self notes c.requires true
-    (sym c.must_wait.ensures ∙ c.if-must_wait.true) put put.number) c.put_behind.ensures
+    (sym c.must_wait.ensures ∙ c.if-must_wait.true)
+    (subst (λ (n : ℕ). IsPutBehind n c.args.made.now mid c.put_behind.new.self) c.note_login.ensures.at put) put.number)
+    c.put_behind.ensures
 
 pub returns-else-must_wait-clause-told : goal.returns-else-must_wait-clause-told
 returns-else-must_wait-clause-told g c =
