@@ -152,10 +152,14 @@ const BOARD: OptionText = OptionText {
     is_required: true,
 };
 
+// The results that there are.
+const RESULTS_THERE: &str =
+    "1-0, 0-1, 1/2-1/2, 1/2-0, 0-1/2, 0-0, +/-, -/+, -/-, W/L, L/W, D/D or as-played";
+
 const RESULT: OptionText = OptionText {
     name: "result",
     value: OptionValue::Text("RESULT"),
-    help: "1-0, 0-1, 1/2-1/2, 1/2-0, 0-1/2, 0-0, +/-, -/+, -/-, W/L, L/W, D/D or as-played",
+    help: RESULTS_THERE,
     is_required: true,
 };
 
@@ -495,6 +499,25 @@ fn number_of(text: &str) -> Option<u32> {
         Ok(number) if number > 0 => Some(number),
         _ => None,
     }
+}
+
+/// What is said where the board of `decide` is none, or else its result.
+pub fn no_decision_told(
+    alloc: Global,
+    values: &ArgMatches<'_>,
+) -> Result<Option<String>, AllocError> {
+    let (board, result) = (text_of(values, "board"), text_of(values, "result"));
+    if number_of(board).is_none() {
+        return Ok(Some(format!(in alloc;
+            "--board {board:?} is no board: it is a number from 1 on, as 3"
+        )?));
+    }
+    if verdict_of(result).is_none() {
+        return Ok(Some(format!(in alloc;
+            "--result {result:?} is no result: it is {RESULTS_THERE}"
+        )?));
+    }
+    Ok(None)
 }
 
 /// What `decide` asks for; none where a board or a result is none.

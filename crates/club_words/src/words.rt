@@ -5,8 +5,8 @@ use crate::archive::{
 };
 use crate::lobby::{LOBBY, PLAYER, adding_of, serving_of};
 use crate::rounds::{
-    DECIDE, RESULTS, STANDINGS, START, TRF, asking_of, deciding_of, no_day_told, report_of,
-    standing_of, starting_of,
+    DECIDE, RESULTS, STANDINGS, START, TRF, asking_of, deciding_of, no_day_told, no_decision_told,
+    report_of, standing_of, starting_of,
 };
 use clap::{ArgMatches, Command, Error};
 use command_lines::{CLUB, WordText, command_line, read_by, read_or_told};
@@ -73,17 +73,18 @@ fn word_given<'a>(
     command: &mut Command<'a>,
     matches: &ArgMatches<'a>,
 ) -> Result<Word<'a>, Error> {
-    let told = no_date_given(alloc, matches)?;
+    let told = what_is_none(alloc, matches)?;
     let read = word_of(alloc, matches)?;
     read_or_told(command, told, read, fault_of(matches))
 }
 
-// What is said where a date or a day is given, and is none.
-fn no_date_given(alloc: Global, matches: &ArgMatches<'_>) -> Result<Option<String>, AllocError> {
+// What is said where a date, a day, a board or a result is given, and is none.
+fn what_is_none(alloc: Global, matches: &ArgMatches<'_>) -> Result<Option<String>, AllocError> {
     match matches.subcommand() {
         Some(("keep", values)) => no_date_told(alloc, values),
         Some(("live", values)) => no_dates_told(alloc, values),
         Some(("trf", values)) => no_day_told(alloc, values),
+        Some(("decide", values)) => no_decision_told(alloc, values),
         _ => Ok(None),
     }
 }
@@ -134,8 +135,7 @@ fn fault_of(matches: &ArgMatches<'_>) -> &'static str {
         }
         Some(("start", _)) => "an address, a board or a game is none",
         Some(("results", _)) => { "an address is none, or neither --archive nor --server is given" }
-        Some(("decide", _)) =>
-            "a board is a number from 1 on, and a result as 1-0, 1/2-1/2, 0-0 or +/-",
+        Some(("decide", _)) => "a board or a result is none",
         Some(("trf", _)) => {
             "an address, a number, a round's files or a tie-break are none, or neither --archive nor --server is given"
         }

@@ -1,3 +1,4 @@
+pub mod Called
 pub mod Html
 pub mod Particulars
 pub mod Roster

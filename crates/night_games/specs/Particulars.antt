@@ -18,6 +18,11 @@ place_of word (column ∷ columns) = if bytes_eq column word then 0 else suc (pl
 abbrev pub told : List (List ℕ) → List (List ℕ) → List ℕ → List ℕ
 told columns fields word = cell fields (place_of word columns)
 
+-- the same of a number, where `0` tells nothing, as spreadsheets have it for who has none
+abbrev pub number_told : List (List ℕ) → List (List ℕ) → List ℕ → List ℕ
+number_told columns fields word =
+    if bytes_eq (told columns fields word) (codes "0") then [] else told columns fields word
+
 -- what is told of a player, and what a row tells, in one order
 unfoldable pub texts_of : Particulars → List (List ℕ)
 texts_of p =
@@ -27,8 +32,8 @@ texts_of p =
 unfoldable pub texts_in : List (List ℕ) → List (List ℕ) → List (List ℕ)
 texts_in columns fields =
     told columns fields (codes "name") ∷ told columns fields (codes "full_name") ∷ told columns fields (codes "sex")
-    ∷ told columns fields (codes "title") ∷ told columns fields (codes "rating")
-    ∷ told columns fields (codes "federation") ∷ told columns fields (codes "fide_number")
+    ∷ told columns fields (codes "title") ∷ number_told columns fields (codes "rating")
+    ∷ told columns fields (codes "federation") ∷ number_told columns fields (codes "fide_number")
     ∷ told columns fields (codes "born") ∷ told columns fields (codes "team") ∷ told columns fields (codes "board") ∷ []
 
 abbrev pub is_title : List ℕ → Bool
@@ -78,9 +83,9 @@ fault_in columns fields =
     else (if not (is_shown (told columns fields (codes "full_name"))) then Some faults.BadFullName
     else (if not (is_sex (told columns fields (codes "sex"))) then Some faults.BadSex
     else (if not (is_title (told columns fields (codes "title"))) then Some faults.BadTitle
-    else (if not (is_number 4 (told columns fields (codes "rating"))) then Some faults.BadRating
+    else (if not (is_number 4 (number_told columns fields (codes "rating"))) then Some faults.BadRating
     else (if not (may_be (told columns fields (codes "federation")) (codes "AAA")) then Some faults.BadFederation
-    else (if not (is_number 11 (told columns fields (codes "fide_number"))) then Some faults.BadNumber
+    else (if not (is_number 11 (number_told columns fields (codes "fide_number"))) then Some faults.BadNumber
     else (if not (may_be (told columns fields (codes "born")) (codes "0000/00/00")) then Some faults.BadBirth
     else (if not (is_shown (told columns fields (codes "team"))) then Some faults.BadTeam
     else (if not (is_number 4 (told columns fields (codes "board"))) then Some faults.BadBoard else None)))))))))

@@ -1,13 +1,14 @@
 //! What is told of games besides: of an archive's, who the players are and which board they are; what the log has of a
 //! game, as lines and as a page to print; and the particulars of players, a file of CSV.
 //!
-//! Modules: `told` puts what is known of players and boards into a PGN; `evidence` tells of the log, by `gaps` of what
-//! is missing there, and whether it stands as it was put; `page` tells the same as a page, into which `html` puts texts
-//! so that none is read as markup, `law` has the law; `last_line` has how far a log goes. `particulars` has what a row
-//! tells of a player, `roster` the rows of the file, `roster_faults` what may be wrong with them; `roster_file` reads
-//! it.
+//! Modules: `told` puts what is known of players and boards into a PGN, and `called` finds whom a tag of it calls so;
+//! `evidence` tells of the log, by `gaps` of what is missing there, and whether it stands as it was put; `page` tells
+//! the same as a page, into which `html` puts texts so that none is read as markup, `law` has the law; `last_line` has
+//! how far a log goes. `particulars` has what a row tells of a player, `roster` the rows of the file, `roster_faults`
+//! what may be wrong with them; `roster_file` reads it.
 #![tactic(auto)]
 
+mod called;
 mod evidence;
 mod gaps;
 mod html;

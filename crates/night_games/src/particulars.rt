@@ -26,6 +26,15 @@ pub fn told<'a>(columns: &[&str], row: &'a StringRecord, word: &str) -> &'a str
     cell(row, place_of(columns, word))
 }
 
+// What a row tells in the column of this name, of a number: nothing where that is `0`.
+fn number_told<'a>(columns: &[&str], row: &'a StringRecord, word: &str) -> &'a str
+    ensures { result.now
+        ≡ spec.number_told (map (λ column. column.now) columns.now) (fields_of row.entry.now) word.now }
+{
+    let number = told(columns, row, word);
+    if number == "0" { "" } else { number }
+}
+
 /// What a row tells, below these names of columns.
 #[tactic(auto, unfolding(crate::specs::Particulars::texts_of, crate::specs::Particulars::texts_in))]
 pub fn particulars_of<'a>(columns: &[&str], row: &'a StringRecord) -> Particulars<'a>
@@ -37,9 +46,9 @@ pub fn particulars_of<'a>(columns: &[&str], row: &'a StringRecord) -> Particular
         full_name: told(columns, row, "full_name"),
         sex: told(columns, row, "sex"),
         title: told(columns, row, "title"),
-        rating: told(columns, row, "rating"),
+        rating: number_told(columns, row, "rating"),
         federation: told(columns, row, "federation"),
-        fide_number: told(columns, row, "fide_number"),
+        fide_number: number_told(columns, row, "fide_number"),
         born: told(columns, row, "born"),
         team: told(columns, row, "team"),
         board: told(columns, row, "board"),
@@ -112,18 +121,13 @@ fn may_be(text: &str, form: &str) -> bool
     text.is_empty() || has_form(text.as_bytes(), form.as_bytes())
 }
 
-// Whether a byte is no control character of ASCII.
-fn is_shown_byte(byte: u8) -> bool
-    ensures { result ≡ spec.is_shown_byte byte }
-{
-    32 <= byte && byte != 127
-}
-
-// Whether no byte of a text is one.
+// Whether no byte of a text is a control character of ASCII.
 fn is_shown(text: &str) -> bool
     ensures { result ≡ spec.is_shown text.now }
 {
-    text.as_bytes().iter().all(|byte| is_shown_byte(*byte))
+    text.as_bytes()
+        .iter()
+        .all(|byte| 32 <= *byte && *byte != 127)
 }
 
 /// The first thing that is wrong with what a row tells below these names of columns.
@@ -139,11 +143,11 @@ pub fn fault_in(columns: &[&str], row: &StringRecord) -> Option<RowFault>
         Some(RowFault::BadSex)
     } else if !is_title(told(columns, row, "title")) {
         Some(RowFault::BadTitle)
-    } else if !is_number(told(columns, row, "rating").as_bytes(), 4) {
+    } else if !is_number(number_told(columns, row, "rating").as_bytes(), 4) {
         Some(RowFault::BadRating)
     } else if !may_be(told(columns, row, "federation"), "AAA") {
         Some(RowFault::BadFederation)
-    } else if !is_number(told(columns, row, "fide_number").as_bytes(), 11) {
+    } else if !is_number(number_told(columns, row, "fide_number").as_bytes(), 11) {
         Some(RowFault::BadNumber)
     } else if !may_be(told(columns, row, "born"), "0000/00/00") {
         Some(RowFault::BadBirth)

@@ -3,50 +3,36 @@ ghost use Rattle.std.specs.Prelude.{◌≡◌};
 ghost use Rattle.night_games.specs.declared.roster_faults.RosterFault.TheVariants as faults;
 
 use std::alloc::AllocError;
-use std::fmt;
 use thiserror::Error;
 
 /// What is wrong with a row.
-#[derive(Clone, Copy, Debug, PartialEq, Eq)]
+#[derive(Clone, Copy, Debug, PartialEq, Eq, Error)]
 pub enum RowFault {
+    #[error("it has not as many fields as the first row")]
     BadShape,
+    #[error("it has no name")]
     NoName,
+    #[error("the full name has a control character, as a tab or a line break")]
     BadFullName,
+    #[error("the sex is neither m nor w")]
     BadSex,
+    #[error("the title is none of GM, IM, WGM, FM, WIM, CM, WFM, WCM")]
     BadTitle,
+    #[error("the rating is no number of at most four digits")]
     BadRating,
+    #[error("the federation is no three capital letters")]
     BadFederation,
+    #[error("FIDE's number is none of at most eleven digits")]
     BadNumber,
+    #[error("the date of birth is not as 2001/02/03")]
     BadBirth,
+    #[error("the team has a control character, as a tab or a line break")]
     BadTeam,
+    #[error("the board is no number of at most four digits")]
     BadBoard,
+    #[error("the name stands in a row below too")]
     NameTwice,
 }
-
-fn text_of(fault: RowFault) -> &'static str {
-    match fault {
-        RowFault::BadShape => "it has not as many fields as the first row",
-        RowFault::NoName => "it has no name",
-        RowFault::BadFullName => "the full name has a control character, as a tab or a line break",
-        RowFault::BadSex => "the sex is neither m nor w",
-        RowFault::BadTitle => "the title is none of GM, IM, WGM, FM, WIM, CM, WFM, WCM",
-        RowFault::BadRating => "the rating is no number of at most four digits",
-        RowFault::BadFederation => "the federation is no three capital letters",
-        RowFault::BadNumber => "FIDE's number is none of at most eleven digits",
-        RowFault::BadBirth => "the date of birth is not as 2001/02/03",
-        RowFault::BadTeam => "the team has a control character, as a tab or a line break",
-        RowFault::BadBoard => "the board is no number of at most four digits",
-        RowFault::NameTwice => "the name stands in a row below too",
-    }
-}
-
-impl fmt::Display for RowFault {
-    fn fmt<W: fmt::Write>(&self, f: &mut fmt::Formatter<W>) -> fmt::Result {
-        f.write_str(text_of(*self))
-    }
-}
-
-impl std::error::Error for RowFault {}
 
 /// Why a text is no file of particulars.
 #[derive(Clone, Copy, Debug, PartialEq, Eq, Error)]

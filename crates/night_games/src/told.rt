@@ -1,19 +1,23 @@
 //! What is told of games besides their PGNs: who the players are, which board they are, what an arbiter decided.
+use crate::called::{row_of, told_as};
 use anyhow::{Context, Result};
 use lobby_words::Player;
 use night_archive::Kept;
 use night_report::Particulars;
+use player_name::Name;
 use std::alloc::{AllocError, Global};
 use text_parts::{before, parts};
 use text_pgn::{is_behind, value_of, with_players};
 
-/// A game's place in a tournament: of which round and board it is, from 1 on; and what an arbiter decided, where one
-/// did.
+/// A game's place in a tournament: of which round and board it is, from 1 on; who plays there, by name; and what an
+/// arbiter decided, where one did.
 #[derive(Drop)]
 pub struct BoardGame {
     pub game: u32,
     pub round: u32,
     pub board: u32,
+    pub white: Name,
+    pub black: Name,
     pub decision: String,
 }
 
@@ -23,14 +27,6 @@ pub struct Telling<'a> {
     pub players: &'a [Player],
     pub known: &'a [Particulars<'a>],
     pub games: &'a [BoardGame],
-}
-
-// Whether a tag calls a player so: by the name, or by one of the full names.
-fn is_called(players: &[Player], told: &Particulars<'_>, value: &str) -> bool {
-    value == told.name
-        || value == told.full_name
-        || players.iter().any(|player| player.name.as_str() == told.name
-            && player.full_name.as_str() == value)
 }
 
 // Puts a tag's line behind others, where it has a value: with a backslash before each quote and each backslash.
@@ -139,13 +135,6 @@ impl Telling<'_> {
         self.known.is_empty() && self.games.is_empty()
     }
 
-    // The particulars of who is called so.
-    fn known_as(&self, value: &str) -> Option<&Particulars<'_>> {
-        self.known
-            .iter()
-            .find(|told| is_called(self.players, told, value))
-    }
-
     /// The full name of a player of this name, and the name itself where none is known.
     pub(crate) fn full_name<'b>(&'b self, name: &'b str) -> &'b str {
         let player = self.players.iter().find(|one| one.name.as_str() == name);
@@ -153,7 +142,7 @@ impl Telling<'_> {
             Some(player) => player.full_name.as_str(),
             None => name,
         };
-        name_told(self.known_as(name), full)
+        name_told(row_of(self.known, name), full)
     }
 
     /// The board of a game.
@@ -185,19 +174,33 @@ impl Telling<'_> {
 
     /// A game's PGN with what is known: the tags BlackElo, BlackFideId, BlackTeam, BlackTitle, Board and White's, where
     /// they have a value; White and Black by their full names; the board's Round; and an arbiter's decision as a
-    /// comment before the result. It fails where the PGN has no players.
+    /// comment before the result. Of a board's players it is what is known by their names; else what is known alike of
+    /// all who are called as the tags White and Black say (`told_as`). It fails where the PGN has no players.
     pub fn pgn(&self, alloc: Global, game: u32, pgn: &str) -> Result<String> {
         let white = value_of(alloc, pgn, "White")?.context("a game has no White")?;
         let black = value_of(alloc, pgn, "Black")?.context("a game has no Black")?;
-        let (first, second) = (self.known_as(white.as_str()), self.known_as(black.as_str()));
         let board = self.board_of(game);
-        let tags = self.tags(alloc, first, second, board)?;
+        let (first, second) = (
+            told_as(
+                self.players,
+                self.known,
+                board.map(|board| board.white),
+                white.as_str(),
+            ),
+            told_as(
+                self.players,
+                self.known,
+                board.map(|board| board.black),
+                black.as_str(),
+            ),
+        );
+        let tags = self.tags(alloc, first.as_ref(), second.as_ref(), board)?;
         let tagged = with_tags(alloc, pgn, &tags, board.map(|board| board.round))?;
         let named = with_players(
             alloc,
             tagged.as_str(),
-            name_told(first, white.as_str()),
-            name_told(second, black.as_str()),
+            name_told(first.as_ref(), white.as_str()),
+            name_told(second.as_ref(), black.as_str()),
         )?;
         let comment = board.map_or("", |board| board.decision.as_str());
         Ok(with_comment(alloc, String::from_utf8(named)?, comment)?)

@@ -10,7 +10,7 @@ use lobby_words::NameForm;
 use night_boards::{Paired, Round, paired_of};
 use night_games::BoardGame;
 use night_outcomes::{decisions_of, noted_game};
-use night_rounds::{Decision, Ground, Verdict, decision_about, verdict_text};
+use night_rounds::{Against, Decision, Ground, Verdict, decision_about, verdict_text};
 use std::alloc::{AllocError, Global};
 use std::rt::Files;
 
@@ -81,6 +81,9 @@ fn push_round(
     decisions: &[Decision],
 ) -> Result<(), AllocError> {
     for pairing in paired.pairings.as_slice() {
+        let Against::Game(against) = &pairing.against else {
+            continue;
+        };
         let board = pairing.board;
         if let Some(game) = noted_game(paired.notes.as_slice(), board) {
             let decision = told_if(alloc, form, decision_about(decisions, board))?;
@@ -88,6 +91,8 @@ fn push_round(
                 game,
                 round,
                 board,
+                white: pairing.white,
+                black: against.black,
                 decision,
             })?;
         }

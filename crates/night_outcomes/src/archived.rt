@@ -3,6 +3,7 @@ use crate::tags::tags_in;
 use anyhow::{Context, Result};
 use night_archive::{game_of, pgn_of};
 use night_files::{cut_lines, tell_left_out};
+use night_links::{FileState, NO_FILE, state_of};
 use std::alloc::{AllocError, Global};
 use std::fs;
 use std::rt::Files;
@@ -20,6 +21,9 @@ struct ArchivedGame {
 #[derive(Drop)]
 pub struct ArchivedGames {
     alloc: Global,
+    // The file, where one is named, and how it stood before it was read.
+    file: Option<String>,
+    state: FileState,
     games: Vec<ArchivedGame>,
     /// What is to be told of lines that were left out.
     pub faults: Vec<String>,
@@ -43,10 +47,14 @@ impl ArchivedGames {
     ) -> Result<ArchivedGames> {
         let mut archived = ArchivedGames {
             alloc: rt.alloc(),
+            file: None,
+            state: NO_FILE,
             games: Vec::new(rt.alloc()),
             faults: Vec::new(rt.alloc()),
         };
         if let Some(file) = file {
+            archived.file = Some(String::from_str(rt.alloc(), file)?);
+            archived.state = state_of(rt, file).context(format_args!("reading {file}"))?;
             let bytes = fs::read(rt, file).context(format_args!("reading {file}"))?;
             archived
                 .put_bytes(file, bytes.as_slice())
@@ -54,6 +62,21 @@ impl ArchivedGames {
             tell_left_out(rt, file, bytes.as_slice());
         }
         Ok(archived)
+    }
+
+    /// Those of the file as it is now, where it is another than when it was read.
+    pub fn read_again<R: Files + AllocGlobal + Eprint>(
+        &self,
+        rt: &R,
+    ) -> Result<Option<ArchivedGames>> {
+        let Some(file) = &self.file else {
+            return Ok(None);
+        };
+        let file = file.as_str();
+        if state_of(rt, file).context(format_args!("reading {file}"))? == self.state {
+            return Ok(None);
+        }
+        Ok(Some(ArchivedGames::read(rt, Some(file))?))
     }
 
     // Puts the games of a file's lines; the last one may lack its line feed.

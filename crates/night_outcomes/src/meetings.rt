@@ -9,7 +9,6 @@ use night_boards::{Round, paired_of};
 use night_report::{Meeting, Opponent, Particulars, Play, Score};
 use night_rounds::{Against, Pairing, Scored, counted};
 use player_name::Name;
-use std::alloc::Global;
 use std::mem;
 use std::net::{Net, TcpStream};
 use std::rt::Files;
@@ -77,13 +76,14 @@ fn meeting_of(players: &[Particulars<'_>], pairing: &Pairing, scored: Scored) ->
 }
 
 // What a board is in the report, by what came of its game and the decisions about it.
-fn met_at(
+fn met_at<R: Files + AllocGlobal + Eprint>(
+    rt: &R,
     boards: Boards<'_>,
     pairing: &Pairing,
     players: &[Particulars<'_>],
     outcomes: &mut Outcomes<'_>,
 ) -> Result<Meeting> {
-    let told = outcomes.of(boards, pairing)?;
+    let told = outcomes.of(rt, boards, pairing)?;
     let by_game = Scored {
         score: score_of(&told.ended),
         play: play_of(&told.ended),
@@ -96,16 +96,16 @@ fn met_at(
 }
 
 // The meetings of a round's boards, in the order of their numbers.
-fn meetings_by(
-    alloc: Global,
+fn meetings_by<R: Files + AllocGlobal + Eprint>(
+    rt: &R,
     boards: Boards<'_>,
     pairings: &[Pairing],
     players: &[Particulars<'_>],
     outcomes: &mut Outcomes<'_>,
 ) -> Result<Vec<Meeting>> {
-    let mut meetings = Vec::new(alloc);
+    let mut meetings = Vec::new(rt.alloc());
     for pairing in pairings {
-        meetings.push(met_at(boards, pairing, players, outcomes)?)?;
+        meetings.push(met_at(rt, boards, pairing, players, outcomes)?)?;
     }
     meetings.sort_by_key(|meeting| meeting.board)?;
     Ok(meetings)
@@ -125,14 +125,7 @@ fn meetings_of<R: Files + AllocGlobal + Eprint>(
         notes: paired.notes.as_slice(),
         decisions: decisions.as_slice(),
     };
-    meetings_by(
-        rt.alloc(),
-        boards,
-        paired.pairings.as_slice(),
-        players,
-        outcomes,
-    )
-    .context(round.pairings)
+    meetings_by(rt, boards, paired.pairings.as_slice(), players, outcomes).context(round.pairings)
 }
 
 // The meetings of each round.

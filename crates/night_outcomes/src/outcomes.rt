@@ -12,7 +12,7 @@ use night_rounds::{
     Against, Decision, Note, Pairing, decision_about, game_in, last_of, verdict_text,
 };
 use player_name::Name;
-use server_answers::{Ending, Refusal, Seats, Shown, refusal_of, result_text, shown_of};
+use server_answers::{Refusal, Seats, Shown, refusal_of, result_text, shown_of};
 use sockets::ServerAddress;
 use std::alloc::{AllocError, Global};
 use std::net::{Net, TcpStream};
@@ -163,14 +163,6 @@ fn others_text(
     )
 }
 
-// The article, empty where there is none.
-fn article_of(ending: Option<Ending>) -> &'static str {
-    match ending {
-        Some(ending) => ending.article.as_str(),
-        None => "",
-    }
-}
-
 // Why nothing came of a game of the table; none where it is of the board's players.
 fn others_on_table(
     alloc: Global,
@@ -196,9 +188,13 @@ fn others_on_table(
 
 // What came of a game of the table.
 fn ended_of(alloc: Global, shown: Shown) -> Result<Ended, AllocError> {
+    let article = match shown.ending {
+        Some(ending) => ending.article.as_str(),
+        None => "",
+    };
     Ok(Ended {
         result: String::from_str(alloc, result_text(shown.ending))?,
-        article: String::from_str(alloc, article_of(shown.ending))?,
+        article: String::from_str(alloc, article)?,
         is_played: shown.ply >= 2,
     })
 }
@@ -261,21 +257,6 @@ impl<'a> Outcomes<'a> {
         told == name || told == full_name(self.players, name)
     }
 
-    // Why nothing came of a game of the archive, of others than the board's players.
-    fn others_in_archive(
-        &self,
-        game: u32,
-        found: Sides<'_>,
-        white: &Name,
-        black: &Name,
-    ) -> Result<String, AllocError> {
-        let wanted = Sides {
-            white: full_name(self.players, white.as_str()),
-            black: full_name(self.players, black.as_str()),
-        };
-        others_text(self.alloc, game, "of the archive", found, wanted)
-    }
-
     // What a game's PGN tells of a board's game, which names its players so.
     fn found_by_tags(
         &self,
@@ -288,7 +269,11 @@ impl<'a> Outcomes<'a> {
         if self.is_named(sides.white, white) && self.is_named(sides.black, black) {
             return Ok(Found::Ended(tags.ended(self.alloc)?));
         }
-        let why = self.others_in_archive(game, sides, white, black)?;
+        let wanted = Sides {
+            white: full_name(self.players, white.as_str()),
+            black: full_name(self.players, black.as_str()),
+        };
+        let why = others_text(self.alloc, game, "of the archive", sides, wanted)?;
         Ok(Found::Others(why))
     }
 
@@ -358,87 +343,138 @@ impl<'a> Outcomes<'a> {
         }
     }
 
-    // What is told of a board's game that is not on the table: what the archive told, if it told anything.
-    fn without_table(&self, game: u32, archived: Found) -> Result<Found, AllocError> {
-        match archived {
-            Found::Nothing => Ok(Found::Unknown(self.not_found(game)?)),
-            archived => Ok(archived),
+    // Reads the archive again, where it is another by now. So who asks behind the server's answer that a game is not on
+    // the table has it: a game is on the archive's disk before it leaves the table.
+    fn renew<R: Files + AllocGlobal + Eprint>(&mut self, rt: &R) -> Result<()> {
+        if let Some(archived) = self.archived.read_again(rt)? {
+            self.archived = archived;
         }
+        Ok(())
     }
 
-    // What the table tells of a board's game, and else what the archive told.
-    fn found_behind(
+    // What is told of a board's game that is not on the table: what the archive told, or tells by now.
+    fn without_table<R: Files + AllocGlobal + Eprint>(
         &mut self,
+        rt: &R,
         white: &Name,
         black: &Name,
         game: u32,
         archived: Found,
     ) -> Result<Found> {
+        if !matches!(archived, Found::Nothing) {
+            return Ok(archived);
+        }
+        self.renew(rt)?;
+        match self.archived(white, black, game)? {
+            Found::Nothing => Ok(Found::Unknown(self.not_found(game)?)),
+            archived => Ok(archived),
+        }
+    }
+
+    // What archive and server tell of a board's game: what came of it by the archive, else what the table tells, and
+    // else what the archive does.
+    fn found<R: Files + AllocGlobal + Eprint>(
+        &mut self,
+        rt: &R,
+        white: &Name,
+        black: &Name,
+        game: u32,
+    ) -> Result<Found> {
+        let archived = self.archived(white, black, game)?;
+        if matches!(archived, Found::Ended(_)) {
+            return Ok(archived);
+        }
         match self.on_table(white, black, game)? {
-            Found::Nothing => Ok(self.without_table(game, archived)?),
+            Found::Nothing => self.without_table(rt, white, black, game, archived),
             shown => Ok(shown),
         }
     }
 
-    // What archive and server tell of a board's game.
-    fn found(&mut self, white: &Name, black: &Name, game: u32) -> Result<Found> {
-        match self.archived(white, black, game)? {
-            Found::Ended(ended) => Ok(Found::Ended(ended)),
-            archived => self.found_behind(white, black, game, archived),
-        }
-    }
-
     // What is known of a board's game. Of a bye nothing is.
-    fn found_at(&mut self, pairing: &Pairing, game: Option<u32>) -> Result<Found> {
+    fn found_at<R: Files + AllocGlobal + Eprint>(
+        &mut self,
+        rt: &R,
+        pairing: &Pairing,
+        game: Option<u32>,
+    ) -> Result<Found> {
         match (&pairing.against, game) {
             (Against::Bye(_), _) => Ok(Found::Nothing),
-            (Against::Game(paired), Some(game)) => self.found(&pairing.white, &paired.black, game),
+            (Against::Game(paired), Some(game)) => {
+                self.found(rt, &pairing.white, &paired.black, game)
+            }
             (Against::Game(_), None) => {
                 Ok(Found::Unknown(String::from_str(self.alloc, "no game was opened for it")?))
             }
         }
     }
 
-    // The PGN of a game: of the archive, and else of the table.
-    fn pgn(&mut self, game: u32) -> Result<Option<String>> {
+    // The PGN of a game: of the archive, and else of the table; of one that has left that meanwhile, of the archive.
+    fn pgn<R: Files + AllocGlobal + Eprint>(
+        &mut self,
+        rt: &R,
+        game: u32,
+    ) -> Result<Option<String>> {
         if let Some(pgn) = self.archived.pgn(game)? {
             return Ok(Some(pgn));
         }
         let line = format!(in self.alloc; "pgn {game}")?;
-        match self.ask(line.as_str())? {
-            Some(answer) => Ok(Some(answer.behind)),
+        let Some(answer) = self.ask(line.as_str())? else {
+            return Ok(None);
+        };
+        if let Some(Refusal::NoGame) = refusal_of(answer.first.as_str()) {
+            self.renew(rt)?;
+            return self.archived.pgn(game);
+        }
+        Ok(Some(answer.behind))
+    }
+
+    // What the Laws ask of what came of a game, and what was found out. Nothing is looked for where an arbiter decided:
+    // that counts, whoever could mate.
+    fn law_asked<R: Files + AllocGlobal + Eprint>(
+        &mut self,
+        rt: &R,
+        game: u32,
+        ended: &Ended,
+        is_decided: bool,
+    ) -> Result<Option<Law>> {
+        if is_decided || !is_asked(ended) {
+            return Ok(None);
+        }
+        match self.pgn(rt, game)? {
+            Some(pgn) => Ok(law_of(self.alloc, game, pgn.as_str(), ended)?),
             None => Ok(None),
         }
     }
 
     // What the Laws say of what came of a game, or that it goes on.
-    fn note_of_ended(&mut self, game: u32, ended: &Ended, is_decided: bool) -> Result<String> {
-        let pgn = if is_asked(ended) {
-            self.pgn(game)?
-        } else {
-            None
-        };
-        let law = match pgn {
-            Some(pgn) => law_of(self.alloc, game, pgn.as_str(), ended)?,
-            None => None,
-        };
-        let Some(law) = law else {
+    fn note_of_ended<R: Files + AllocGlobal + Eprint>(
+        &mut self,
+        rt: &R,
+        game: u32,
+        ended: &Ended,
+        is_decided: bool,
+    ) -> Result<String> {
+        let Some(law) = self.law_asked(rt, game, ended, is_decided)? else {
             return Ok(String::from_str(self.alloc, going_on(ended))?);
         };
         let said = said_by_law(self.alloc, &law)?;
-        if !is_decided {
-            self.laws.push(law)?;
-        }
+        self.laws.push(law)?;
         Ok(joined(self.alloc, going_on(ended), said)?)
     }
 
     // Why nothing came of a board's game, that it goes on, or what the Laws say of it.
-    fn note_of(&mut self, game: Option<u32>, found: &Found, is_decided: bool) -> Result<String> {
+    fn note_of<R: Files + AllocGlobal + Eprint>(
+        &mut self,
+        rt: &R,
+        game: Option<u32>,
+        found: &Found,
+        is_decided: bool,
+    ) -> Result<String> {
         match (found, game) {
             (Found::Others(why), _) | (Found::Unknown(why), _) => {
                 Ok(String::from_str(self.alloc, why.as_str())?)
             }
-            (Found::Ended(ended), Some(game)) => self.note_of_ended(game, ended, is_decided),
+            (Found::Ended(ended), Some(game)) => self.note_of_ended(rt, game, ended, is_decided),
             _ => Ok(String::new(self.alloc)),
         }
     }
@@ -504,15 +540,17 @@ impl<'a> Outcomes<'a> {
         }
     }
 
-    // What was found of a board, with its note.
-    fn told(&mut self, boards: Boards<'_>, pairing: &Pairing, found: Found) -> Result<Told> {
-        let board = pairing.board;
-        let game = noted_game(boards.notes, board);
-        let half = self.half_of(board, game)?;
+    // What was found of a board, with its note: why nothing came of it, that it goes on, or what the Laws say.
+    fn told(
+        &mut self,
+        boards: Boards<'_>,
+        board: u32,
+        found: Found,
+        why: &str,
+    ) -> Result<Told, AllocError> {
+        let half = self.half_of(board, noted_game(boards.notes, board))?;
         self.put_words(boards, board, &found, &half)?;
-        let is_decided = decision_about(boards.decisions, board).is_some();
-        let why = self.note_of(game, &found, is_decided)?;
-        let note = joined(self.alloc, why.as_str(), half)?;
+        let note = joined(self.alloc, why, half)?;
         self.put_word(boards.file, board, note.as_str())?;
         Ok(Told {
             ended: found.ended(),
@@ -521,11 +559,20 @@ impl<'a> Outcomes<'a> {
     }
 
     /// What is known of a board's game. Where nothing came of it, it goes on or was played on as another, where the
-    /// Laws say something of its result or an arbiter decided otherwise, there is a word to be told.
-    pub fn of(&mut self, boards: Boards<'_>, pairing: &Pairing) -> Result<Told> {
-        let game = noted_game(boards.notes, pairing.board);
-        let found = self.found_at(pairing, game)?;
-        self.told(boards, pairing, found)
+    /// Laws say something of its result or an arbiter decided otherwise, there is a word to be told. The archive is
+    /// read again where the server has not got a game that was not in it yet.
+    pub fn of<R: Files + AllocGlobal + Eprint>(
+        &mut self,
+        rt: &R,
+        boards: Boards<'_>,
+        pairing: &Pairing,
+    ) -> Result<Told> {
+        let board = pairing.board;
+        let game = noted_game(boards.notes, board);
+        let found = self.found_at(rt, pairing, game)?;
+        let is_decided = decision_about(boards.decisions, board).is_some();
+        let why = self.note_of(rt, game, &found, is_decided)?;
+        Ok(self.told(boards, board, found, why.as_str())?)
     }
 
     /// Tells what was left out of the archive, and the words of the boards.

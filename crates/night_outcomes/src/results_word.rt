@@ -14,15 +14,15 @@ use std::net::{Net, TcpStream};
 use std::rt::Files;
 
 // What came of each board's game.
-fn told_of(
-    alloc: Global,
+fn told_of<R: Files + AllocGlobal + Eprint>(
+    rt: &R,
     boards: Boards<'_>,
     pairings: &[Pairing],
     outcomes: &mut Outcomes<'_>,
 ) -> Result<Vec<Told>> {
-    let mut told = Vec::new(alloc);
+    let mut told = Vec::new(rt.alloc());
     for pairing in pairings {
-        told.push(outcomes.of(boards, pairing)?)?;
+        told.push(outcomes.of(rt, boards, pairing)?)?;
     }
     Ok(told)
 }
@@ -96,14 +96,14 @@ pub fn players_in<R: Files + AllocGlobal>(rt: &R, file: Option<&str>) -> Result<
 }
 
 // The text of a round's results, by what came of its games.
-fn results_of(
-    alloc: Global,
+fn results_of<R: Files + AllocGlobal + Eprint>(
+    rt: &R,
     boards: Boards<'_>,
     pairings: &[Pairing],
     outcomes: &mut Outcomes<'_>,
 ) -> Result<Vec<u8>> {
-    let told = told_of(alloc, boards, pairings, outcomes)?;
-    Ok(text_of(alloc, boards, pairings, told.as_slice())?)
+    let told = told_of(rt, boards, pairings, outcomes)?;
+    Ok(text_of(rt.alloc(), boards, pairings, told.as_slice())?)
 }
 
 // Writes the results of a round, and tells before what is to be told of boards.
@@ -114,9 +114,9 @@ fn write_outcomes<R>(
     outcomes: &mut Outcomes<'_>,
 ) -> Result<()>
 where
-    R: AllocGlobal + Print + Eprint,
+    R: Files + AllocGlobal + Print + Eprint,
 {
-    let text = results_of(rt.alloc(), boards, pairings, outcomes)?;
+    let text = results_of(rt, boards, pairings, outcomes)?;
     outcomes.tell(rt)?;
     Ok(io::writer(rt).write_all(text.as_slice())?)
 }
@@ -129,7 +129,7 @@ fn write_checked<R>(
     outcomes: &mut Outcomes<'_>,
 ) -> Result<()>
 where
-    R: AllocGlobal + Print + Eprint,
+    R: Files + AllocGlobal + Print + Eprint,
 {
     write_outcomes(rt, boards, pairings, outcomes)?;
     outcomes.check_names()?;
