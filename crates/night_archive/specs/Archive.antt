@@ -1,9 +1,17 @@
 -- What an archive keeps.
-use Rattle.std.specs.Prelude.{ℕ, ◌≡◌, ◌≤◌, false, List, [], ◌∷◌, length, drop, Some, None, codes}
+use Rattle.std.specs.Prelude.{ℕ, ◌≡◌, ◌≤◌, Bool, false, List, [], ◌∷◌, length, drop, Some, None, codes}
 use Rattle.night_files.specs.Lines.{IsRecord, AreRecords, text_of, records_in}
 use Rattle.night_files.specs.Torn.{torn_fault, has_beginning}
+use Rattle.night_archive.specs.declared.archive.Archive.{Archive}
 use Rattle.night_archive.specs.Laws.{IsOnce}
 use Rattle.night_archive.specs.Line.{game_in}
+
+-- the file in which an archive stands, and whether that is open: nothing is put into it otherwise
+abbrev pub file_of : {F : Type 0} → Archive F → F
+file_of {F} archive = archive.records.file
+
+abbrev pub is_open : {F : Type 0} → Archive F → Bool
+is_open {F} archive = archive.records.is_open
 
 -- a line that stands alone and names the game
 pub record IsLine (game : ℕ) (line : List ℕ) : Type 0 where

@@ -1,6 +1,9 @@
-//! An archive behind whose lines a volume has brought back the end of a line that it had refused.
+//! An archive and a log behind whose lines a volume has brought back what it had refused.
+use crate::acts::{bytes_of, texts};
 use night_archive::{Archive, lines_of, open_archive};
-use night_files::DiskFile;
+use night_files::{AppendedFile, DiskFile, MemoryFile, MemoryTorn};
+use night_log::{Fault, Log};
+use std::alloc::Global;
 use std::fs::{self, File, OpenOptions};
 use std::io::Write;
 use std::process::Abort;
@@ -58,4 +61,54 @@ fn what_comes_back_is_put_beside(rt: HostRuntime) {
     let torn = fs::read_to_string(&rt, TORN).expect(&rt, "what came back");
     assert!(rt; text.as_str() == BOTH && torn.as_str() == END);
     assert!(rt; fs::remove_file(&rt, FILE).is_ok() && fs::remove_file(&rt, TORN).is_ok());
+}
+
+// The bytes of a log that was told of ann, and then this text so often.
+fn log_of(rt: &impl Abort, alloc: Global, at: u64, text: &str, count: usize) -> Vec<u8> {
+    let file = MemoryFile::new(alloc, None);
+    let mut log = Log::open(alloc, file, &mut MemoryTorn::new(alloc, false)).expect(rt, "a log");
+    assert!(rt;
+        log.put(alloc, 1, &texts(rt, alloc, "came ann\n", 1))
+            .is_ok()
+    );
+    assert!(rt; log.put(alloc, at, &texts(rt, alloc, text, count)).is_ok());
+    bytes_of(rt, alloc, log.into_file())
+}
+
+// A log that was told this text, behind which the end of the lines has come back that were refused in its place: what
+// an opening leaves of it, and what it cuts off, as lengths; how long its own lines are, and what has come back.
+fn opened_log(
+    rt: &impl Abort,
+    alloc: Global,
+    at: u64,
+    text: &str,
+) -> (Result<Log<MemoryFile>, Fault>, usize, usize, usize) {
+    let mut bytes = log_of(rt, alloc, at, text, 1);
+    let own = bytes.len();
+    let refused = log_of(rt, alloc, 5, "came bob\n", 3);
+    let back = refused.get(own..).expect(rt, "what comes back");
+    bytes.extend_from_slice(back).expect(rt, "memory");
+    let mut file = MemoryFile::new(alloc, None);
+    file.append(&bytes).expect(rt, "a file");
+    let mut torn = MemoryTorn::new(alloc, false);
+    let log = Log::open(alloc, file, &mut torn);
+    (log, torn.bytes().len(), own, back.len())
+}
+
+#[test]
+fn a_log_is_cut_before_what_comes_back(rt: HostRuntime) {
+    let alloc = rt.alloc();
+    // (the end of a line and a line, and two whole lines)
+    for text in ["lobby began\n", "came eve\n"] {
+        let (log, torn, own, back) = opened_log(&rt, alloc, 6, text);
+        let bytes = bytes_of(&rt, alloc, log.expect(&rt, "a log").into_file());
+        assert!(rt; bytes.as_slice() == log_of(&rt, alloc, 6, text, 1).as_slice());
+        assert!(rt; bytes.len() == own && torn == back);
+    }
+    // (lines that are no older than the one before them stay, and the end of one is a fault then)
+    let (log, torn, own, back) = opened_log(&rt, alloc, 5, "came eve\n");
+    let bytes = bytes_of(&rt, alloc, log.expect(&rt, "a log").into_file());
+    assert!(rt; torn == 0 && bytes.len() == own.saturating_add(back));
+    let (log, torn, ..) = opened_log(&rt, alloc, 5, "lobby began\n");
+    assert!(rt; torn == 0 && matches!(log, Err(Fault::NotALine(3))));
 }
