@@ -36,17 +36,19 @@ use Rattle.lobby_talk.specs.Lines.{bytes_of as bytes_before, AreHeard}
 use Rattle.lobby_talk.specs.Held.{HoldsNoLine, IsKept}
 use Rattle.lobby_loop.specs.Turning.{BeginsHall, Admits, ServerComes, IsServerAsBefore, HearsServer, bytes_heard, PartsFromServer, TellsServer, HasTurned, texts_put, Comer, AreAdmitted, IsReached, IsLobbyTurn, is_look_time}
 use Rattle.lobby_loop.specs.Doing.{Gave, Spot, spot, DoesAt, all_tells, around, IsServed, AreServed, WereServed, AreAtLine, Before}
-use Rattle.lobby_loop.specs.Living.{Happening, Came, Woke, ServerCame, Turned, IsWoken, IsLife, left, written_in, taken_in, put_in, lost_if, presences_in, kept, sent_in, line_more, lines_heard, presence_more, presences_told, IsHeld, IsOther, HasNone, IsOneOf, AreKnown, IsOwn, AreOwn, numbers, NoLineWaits, IsRightLife, Passing, TurnAt, Rested, IsLobbyLife, Filed, Files, before_in, Changed, Relisted, Learned, Notes, Enrolled, Noticed}
+use Rattle.lobby_loop.specs.Living.{Happening, Came, Woke, ServerCame, Turned, IsWoken, IsLife, left, written_in, taken_in, put_in, lost_if, presences_in, kept, sent_in, line_more, lines_heard, presence_more, presences_told, notices_in, notice_more, notices_told, IsHeld, IsOther, HasNone, IsOneOf, AreKnown, IsOwn, AreOwn, numbers, NoLineWaits, IsRightLife, Passing, TurnAt, Rested, IsLobbyLife, Filed, Files, before_in, Changed, Relisted, Learned, Notes, Enrolled, Noticed}
 use Rattle.lobby_loop.proofs.Lined.{same_line, lines_by, lines_filter, lines_both, turn_lines}
 use Rattle.lobby_loop.proofs.Serving.{IsApart, ApartFrom, AreApart, served_before, served_read, served_looked, served_written, served_told, served_caught_up, gave_nothing, gave_again, gave_early, gave_opened, gave_text, all_served_on, all_served_zip, all_served_filter, all_served_more, all_came, served_new, ClosedIf, AllClosed, closed_if_on, all_were_on, all_were_out, all_were_came, all_let_go, came_more, site_more, all_filed, all_were_filed}
 
 -- ---- the desk's steps
 
--- What was written to the server, the lines that were heard of it, the newest first, and that it is there or gone.
+-- What was written to the server, the lines that were heard of it, the newest first, that it is there or gone, and what
+-- was told of players and of what halts games.
 pub record Traffic : Type 0 where
   pub wrote : List ℕ
   pub heard : List (List ℕ)
   pub presences : List Bool
+  pub notices : List DeskInput
 
 -- the same behind an event
 abbrev behind : DeskInput → Traffic → Traffic
@@ -54,6 +56,7 @@ behind e traffic = record {
   wrote = kept e traffic.wrote;
   heard = line_more e traffic.heard;
   presences = presence_more e traffic.presences;
+  notices = notice_more e traffic.notices;
 }
 
 -- What the desk has done so far; what of it was written to the server and is to go there; what of it went out to connections
@@ -66,6 +69,7 @@ pub record IsAt (players : List Player) (is_paused : Bool) (traffic : Traffic) (
   pub sent : sent_in steps ≡ traffic.wrote ++ wire
   pub heard : lines_heard steps ≡ traffic.heard
   pub presences : presences_told steps ≡ traffic.presences
+  pub notices : notices_told steps ≡ traffic.notices
   pub tells : all_tells steps ≡ out ++ told
   pub holds : K steps
 
@@ -100,6 +104,7 @@ at_by players is_paused traffic out K L before after from to t u old new e goes 
   sent = sent;
   heard = ap (λ (lines : List (List ℕ)). line_more e lines) so_far.heard;
   presences = ap (λ (l : List Bool). presence_more e l) so_far.presences;
+  notices = ap (λ (l : List DeskInput). notice_more e l) so_far.notices;
   tells = told_more out t s.tells u so_far.steps so_far.tells s.told;
   holds = goes so_far.steps (record { event = e; lines = s.lines; tells = s.tells }) refl so_far.tells so_far.holds;
 }
@@ -133,6 +138,7 @@ at_with players is_paused traffic out K L desk wire told more so_far = record {
   sent = so_far.sent;
   heard = so_far.heard;
   presences = so_far.presences;
+  notices = so_far.notices;
   tells = so_far.tells;
   holds = more so_far.steps so_far.holds;
 }
@@ -176,14 +182,16 @@ all_apart e nobody (n ∷ ns) = (nobody_apart e nobody n, all_apart e nobody ns)
 
 abbrev behind_loss : Bool → Traffic → Traffic
 behind_loss gone traffic =
-    record { wrote = left gone traffic.wrote; heard = traffic.heard; presences = lost_if gone traffic.presences }
+    record { wrote = left gone traffic.wrote; heard = traffic.heard; presences = lost_if gone traffic.presences; notices = traffic.notices }
 
 -- behind lines that were heard, and what more is written
 abbrev behind_lines : List (List ℕ) → Traffic → Traffic
-behind_lines lines traffic = record { wrote = traffic.wrote; heard = lines ++ traffic.heard; presences = traffic.presences }
+behind_lines lines traffic =
+    record { wrote = traffic.wrote; heard = lines ++ traffic.heard; presences = traffic.presences; notices = traffic.notices }
 
 abbrev behind_front : List ℕ → Traffic → Traffic
-behind_front front traffic = record { wrote = traffic.wrote ++ front; heard = traffic.heard; presences = traffic.presences }
+behind_front front traffic =
+    record { wrote = traffic.wrote ++ front; heard = traffic.heard; presences = traffic.presences; notices = traffic.notices }
 
 -- the lines that came of the server, the newest first
 abbrev lines_of_server : {S : Type 0} → (remaining : S → Option (List ℕ)) → (server after : Option (Link S)) → (old new : Talk) →
@@ -1002,15 +1010,27 @@ woken_held (Some link) after (next, is, stream, kept) rest held =
 
 -- ---- whatever happens
 
--- what was written to the server, the bytes that came of it, that it is there or gone, and what the log has
+-- what was written to the server, the bytes that came of it, that it is there or gone, what was told of players and of
+-- what halts games, and what the log has
 pub record Outside : Type 0 where
   pub wrote : List ℕ
   pub taken : List ℕ
   pub presences : List Bool
+  pub notices : List DeskInput
   pub put : List (List ℕ)
 
 abbrev outside_in : {S : Type 0} → List (Happening S) → Outside
-outside_in past = record { wrote = written_in past; taken = taken_in past; presences = presences_in past; put = put_in past }
+outside_in past = record {
+  wrote = written_in past;
+  taken = taken_in past;
+  presences = presences_in past;
+  notices = notices_in past;
+  put = put_in past;
+}
+
+-- behind what the desk is told of players or of what halts games
+abbrev noticed : DeskInput → Outside → Outside
+noticed e o = record { wrote = o.wrote; taken = o.taken; presences = o.presences; notices = e ∷ o.notices; put = o.put }
 
 -- behind a turn
 abbrev behind_turn : List ℕ → Bool → List (List ℕ) → List ℕ → Outside → Outside
@@ -1018,11 +1038,12 @@ behind_turn taken gone put front o = record {
   wrote = left gone o.wrote ++ front;
   taken = o.taken ++ taken;
   presences = lost_if gone o.presences;
+  notices = o.notices;
   put = o.put ++ put;
 }
 
 abbrev traffic_of : Outside → List (List ℕ) → Traffic
-traffic_of o heard = record { wrote = o.wrote; heard = heard; presences = o.presences }
+traffic_of o heard = record { wrote = o.wrote; heard = heard; presences = o.presences; notices = o.notices }
 
 -- what holds of a hall, where this was outside and browsers came by these streams
 pub record IsHallAt {S : Type 0} (remaining contents : S → Option (List ℕ)) (players : List Player) (is_paused : Bool) (o : Outside)
@@ -1101,6 +1122,7 @@ module _ {S : Type 0} (remaining contents : S → Option (List ℕ)) (players : 
     sent = so_far.sent ∙ (ap (λ (bytes : List ℕ). base.wrote ++ bytes) split ∙ sym (append_assoc base.wrote front wire));
     heard = so_far.heard;
     presences = so_far.presences;
+    notices = so_far.notices;
     tells = so_far.tells ∙ sym (append-nil (out ++ message_values said.told.items));
     holds = kept_same remaining contents site came former (out ++ message_values said.told.items) (IsCaughtUp at)
         (λ steps x y one was. served_caught_up remaining contents site came steps (out ++ message_values said.told.items) at x y one was)
@@ -1446,10 +1468,10 @@ module _ {S : Type 0} (remaining contents : S → Option (List ℕ)) (players : 
       (subst (λ (gs : List (Guest S)). AreOwn old.talk.next (numbers (former ++ gs))) (sym (ap (λ gs. gs.items) guests)) own)
 
   -- the desk takes an event that is of no browser and not of the server, as that the players are others
-  noted : (e : DeskInput) → ((o : Outside) (heard : List (List ℕ)) → behind e (traffic_of o heard) ≡ traffic_of o heard) →
+  noted : (e : DeskInput) → ((o : Outside) (heard : List (List ℕ)) → behind e (traffic_of o heard) ≡ traffic_of (noticed e o) heard) →
       ((bytes : List ℕ) → kept e bytes ≡ bytes) → IsOfNobody e → IsNoOpening e →
       (o : Outside) (came : Before S) (old new : Hall S) → Notes e old new →
-      IsHallAt remaining contents players is_paused o came old → IsHallAt remaining contents players is_paused o came new
+      IsHallAt remaining contents players is_paused o came old → IsHallAt remaining contents players is_paused (noticed e o) came new
   noted e same keeps nobody none o came old new notes so_far =
       let traffic = traffic_of o so_far.heard in
       let former = so_far.former in
@@ -1461,7 +1483,7 @@ module _ {S : Type 0} (remaining contents : S → Option (List ℕ)) (players : 
         cut = subst (λ s. AreCut o.taken so_far.heard s) (sym notes.server) so_far.cut;
         former = former;
         logged = so_far.logged;
-        talk = still_at traffic came former out old new notes.guests notes.site
+        talk = still_at (traffic_of (noticed e o) so_far.heard) came former out old new notes.guests notes.site
             (subst (λ (t : Traffic). IsAt players is_paused t out held new.talk.desk new.talk.wire.items (message_values new.talk.told.items)) (same o so_far.heard)
             (at_more players is_paused traffic out held held _ _ _ _ old.talk.desk new.talk.desk e keeps
             (goes_by remaining contents old.site came players is_paused former out (message_values old.talk.told.items) e
@@ -1477,7 +1499,7 @@ module _ {S : Type 0} (remaining contents : S → Option (List ℕ)) (players : 
 
   server_came : (o : Outside) (came : Before S) (stream : S) (old new : Hall S) → ServerComes stream old new →
       IsHallAt remaining contents players is_paused o came old →
-      IsHallAt remaining contents players is_paused (record { wrote = []; taken = []; presences = true ∷ o.presences; put = o.put }) came new
+      IsHallAt remaining contents players is_paused (record { wrote = []; taken = []; presences = true ∷ o.presences; notices = o.notices; put = o.put }) came new
   server_came o came stream old new comes so_far =
       let traffic = traffic_of o so_far.heard in
       let former = so_far.former in
@@ -1499,7 +1521,7 @@ module _ {S : Type 0} (remaining contents : S → Option (List ℕ)) (players : 
       }
 
   begun_at : (site : Site) (now : Hall S) → BeginsHall site players is_paused now →
-      IsHallAt remaining contents players is_paused (record { wrote = []; taken = []; presences = []; put = [] }) (record { streams = []; sites = [] }) now
+      IsHallAt remaining contents players is_paused (record { wrote = []; taken = []; presences = []; notices = []; put = [] }) (record { streams = []; sites = [] }) now
   begun_at site now begins = record {
     out = [];
     heard = [];
@@ -1513,6 +1535,7 @@ module _ {S : Type 0} (remaining contents : S → Option (List ℕ)) (players : 
       sent = sym begins.talk.wire;
       heard = refl;
       presences = refl;
+      notices = refl;
       tells = sym (ap message_values begins.talk.told);
       holds = subst (λ (gs : List (Guest S)). AreKept remaining contents now.site (record { streams = []; sites = [] }) [] [] gs []) (sym begins.guests)
           (record { served = tt; were = tt; known = λ c come. absurd (false≢true come) });
@@ -1567,6 +1590,7 @@ module _ {S : Type 0} (remaining contents : S → Option (List ℕ)) (players : 
         held = at.cut.held;
         whole = at.whole;
         presences = at.talk.presences;
+        notices = at.talk.notices;
         out = at.out;
         told = at.talk.tells;
         logs = are_logged players at.talk.steps good.told;

@@ -142,6 +142,13 @@ presences_in (ServerCame stream ∷ past) = true ∷ presences_in past
 presences_in (Turned turn ∷ past) = lost_if turn.is_gone (presences_in past)
 presences_in (_ ∷ past) = presences_in past
 
+-- that the players are others, and what is found that halts games, the newest first
+abbrev pub notices_in : {S : Type 0} → List (Happening S) → List DeskInput
+notices_in [] = []
+notices_in (Relisted players ∷ past) = Renewed players ∷ notices_in past
+notices_in (Learned finding ∷ past) = Found finding ∷ notices_in past
+notices_in (_ ∷ past) = notices_in past
+
 -- all texts that the log has, in their order
 abbrev pub put_in : {S : Type 0} → List (Happening S) → List (List ℕ)
 put_in [] = []
@@ -180,6 +187,16 @@ presence_more _ before = before
 abbrev pub presences_told : List Step → List Bool
 presences_told [] = []
 presences_told (s ∷ past) = presence_more s.event (presences_told past)
+
+-- what the desk was told of the players and of what halts games, the newest first
+abbrev pub notice_more : DeskInput → List DeskInput → List DeskInput
+notice_more (Renewed players) before = Renewed players ∷ before
+notice_more (Found finding) before = Found finding ∷ before
+notice_more _ before = before
+
+abbrev pub notices_told : List Step → List DeskInput
+notices_told [] = []
+notices_told (s ∷ past) = notice_more s.event (notices_told past)
 
 -- these bytes of the server are held, where it is there
 abbrev pub IsHeld : {S : Type 0} → Option (Link S) → List ℕ → Type 0
@@ -251,7 +268,8 @@ NoLineWaits (Some link) = HoldsNoLine link
 -- every message to a connection is right. What was written to the server since its connection began is a front of
 -- the bytes of these lines, and the rest of them is to go. The lines that the desk heard since then stand in front
 -- of all bytes that came of the server, and where its connection goes on no whole line of it waits; the desk was
--- told that the server is there or gone just where it was. What the desk told connections went out of its hands, and
+-- told that the server is there or gone just where it was, and of other players and of what halts games just what was
+-- so, each once and in their order. What the desk told connections went out of its hands, and
 -- the rest of it is to go; of what went out the log has all texts for it, each once and in their order. Of all
 -- browsers that came, those that were let go too, no two have one connection's number, and the desk was told of no
 -- connection but theirs; the desk has, under its number, all that a browser said, and of what went out all that is
@@ -271,6 +289,7 @@ pub record IsRightLife {S : Type 0} (remaining contents : S → Option (List ℕ
   pub held : IsHeld now.server rest
   pub whole : NoLineWaits now.server
   pub presences : presences_told steps ≡ presences_in past
+  pub notices : notices_told steps ≡ notices_in past
   pub out : List MessageValue
   pub told : all_tells steps ≡ out ++ message_values now.talk.told.items
   pub logs : IsLogged players steps
