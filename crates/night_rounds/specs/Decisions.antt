@@ -55,8 +55,8 @@ decided d =
       ground = grounds d.ground;
     }
 
--- White's points before Black's; of who did not come a minus, and of a game that is not rated, since not both sides made
--- a move, the signs of a report
+-- White's points before Black's; of who did not come a minus, and of a game that is not rated, since not both sides
+-- made a move, the signs of a report
 abbrev pub verdict_text : Verdict → List ℕ
 verdict_text verdicts.White = codes "1-0"
 verdict_text verdicts.Black = codes "0-1"

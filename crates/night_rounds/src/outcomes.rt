@@ -78,8 +78,8 @@ fn push_outcomes(
 }
 
 /// The results as CSV: the row `board,white,black,result,article,game,server,arbiter,reason,note`, and a row for each
-/// board. Its result is that of the decision that counts for it, and else what came of its game, which stands in `server`.
-/// It fails where memory is refused.
+/// board. Its result is that of the decision that counts for it, and else what came of its game, which stands in
+/// `server`. It fails where memory is refused.
 pub fn results(
     alloc: Global,
     decisions: &[Decision],
