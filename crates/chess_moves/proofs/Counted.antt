@@ -1,7 +1,7 @@
 -- The legal moves from a square, as the squares where its man goes safely tell them, and how many they are.
-use Rattle.std.specs.Prelude.{ℕ, ◌≡◌, ◌≢◌, ◌+◌, ◌*◌, ◌≤◌, Bool, true, false, cond, ◌&&◌, ◌==◌, List, [], ◌∷◌, length, filter, flat_map, Contains, Some}
+use Rattle.std.specs.Prelude.{ℕ, ◌≡◌, ◌≢◌, ◌↔◌, ◌+◌, ◌*◌, ◌≤◌, Bool, true, false, not, cond, ◌&&◌, ◌==◌, List, [], ◌∷◌, length, filter, flat_map, Contains, Some}
 use Rattle.std.proofs.Common.{arith, refl, sym, ap, subst, ◌∙◌, inl, inr, length-append}
-use Rattle.std.proofs.lemmas.Bool.{false≢true, cases_Bool}
+use Rattle.std.proofs.lemmas.Bool.{false≢true, cases_Bool, not-true}
 use Rattle.std.proofs.lemmas.Bool.Decides.{Decides-eqb}
 use Rattle.chess_bits.specs.declared.men.Colour.{Colour}
 use Rattle.chess_bits.specs.declared.men.Kind.{Kind}
@@ -19,10 +19,11 @@ use Rattle.chess_board.specs.Computing.{is_legal, moves_between, legal_moves_of}
 use Rattle.chess_board.proofs.Candidates.{IsOnBoard-from_man}
 use Rattle.chess_board.proofs.DistinctMoves.{Contains-here, Contains-later, Contains-filter_from}
 use Rattle.chess_moves.specs.Targets.{plain, GoesSafely, HasSafeTarget}
-use Rattle.chess_moves.specs.Moves.{IsNumberOfLegalMoves}
+use Rattle.chess_moves.specs.Moves.{IsNumberOfLegalMoves, HasLegal}
 use Rattle.chess_moves.specs.Listing.{legal_from, promotions, choices}
 use Rattle.chess_moves.proofs.ListLemmas.{filter-flat_map, flat_map-filter, filter-same, length-filter_most}
-use Rattle.chess_moves.proofs.Listed.{same_test, leaves_king_safe, Decides-leaves_king_safe, safe_choices, between_choices, on_board-squares, IsListOfLegalMoves-computed}
+use Rattle.chess_moves.proofs.Listed.{same_test, leaves_king_safe, Decides-leaves_king_safe, safe_choices, between_choices, on_board-squares}
+use Rattle.chess_moves.proofs.Listed.{IsListOfLegalMoves-computed, legal_from_target}
 use Rattle.chess_moves.proofs.Bound.{goes, Decides-goes}
 use Rattle.chess_moves.proofs.Safely.{some_square}
 
@@ -178,3 +179,12 @@ pub told_safe : (p : Position) (kind : Kind) (from : Square) (set : List Bool) �
     IsSetOf set (GoesSafely p kind from) → HasSafeTarget p kind from → ¬ (members set ≡ [])
 told_safe p kind from set of (to, on, goes', safe) none =
     false≢true (sym (has-none set to on none) ∙ (of.exact to on).1 (goes', safe))
+
+-- a man that goes somewhere so that its king is safe has a legal move
+pub goes_legal : (p : Position) (kind : Kind) (from : Square) (set : List Bool) (none : Bool) →
+    length p.placement ≡ 64 → man_at p.placement from ≡ Some (p.side, kind) → IsSetOf set (GoesSafely p kind from) →
+    ((none ≡ true) ↔ (members set ≡ [])) → not none ≡ true → HasLegal p
+goes_legal p kind from set none whole own of told some =
+    let safe = safe_told p kind from set of (λ e. false≢true (sym (not-true none some) ∙ told.1 e)) in
+    let legal = legal_from_target p from kind whole own safe in
+    (legal.0, legal.2)

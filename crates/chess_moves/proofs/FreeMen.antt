@@ -10,7 +10,7 @@ use Rattle.chess_bits.specs.Square.{Square, IsOnBoard}
 use Rattle.chess_bits.specs.Man.{other}
 use Rattle.chess_bits.specs.Table.{has, union, meet, without, empty, IsSetOf}
 use Rattle.chess_bits.specs.Attack.{along, forward, pawn_attacks, Reaches, Attacks}
-use Rattle.chess_bits.proofs.TableLemmas.{same_square}
+use Rattle.chess_bits.proofs.TableLemmas.{same_square, on_board-from_at}
 use Rattle.chess_bits.proofs.ManLemmas.{not_of_both, same_kind}
 use Rattle.chess_bits.proofs.SetLemmas.{has-meet, has-without, length-without, length-meet, IsSetOf-like}
 use Rattle.chess_bits.proofs.Reversal.{Attacks-back}
@@ -276,3 +276,11 @@ piece_apart Bishop piece e = absurd (cc)
 piece_apart Rook piece e = absurd (cc)
 piece_apart Queen piece e = absurd (cc)
 piece_apart King piece e = piece
+
+-- what a set of the men of the side to move tells of its squares
+pub own_men : (p : Position) (side : Colour) (set : List Bool) → side ≡ p.side →
+    IsSetOf set (λ s. HoldsColour p s side) → (s : Square) → has set s ≡ true → HoldsColour p s p.side
+own_men p side set same of s here =
+    let Held' : Colour → Type 0 = HoldsColour p s in
+    subst Held' same
+    ((of.exact s (on_board-from_at false set s (λ none. false≢true (sym none ∙ here)))).0 here)

@@ -1,5 +1,5 @@
 //! Where men go that no slider pins and that take nothing en passant: what ends every check is all that is asked.
-ghost use Rattle.std.specs.Prelude.{◌≡◌, true, Some, length};
+ghost use Rattle.std.specs.Prelude.{◌≡◌, IsTrue, true, Some, length};
 ghost use Rattle.chess_bits.specs.declared.men.Kind.TheVariants as kinds;
 ghost use Rattle.chess_bits.specs.Square.{Square as Geometric, IsOnBoard};
 ghost use Rattle.chess_bits.specs.Table.{has, IsSetOf};
@@ -8,6 +8,7 @@ ghost use Rattle.chess_board.specs.Legal.{HoldsColour};
 ghost use Rattle.chess_moves.specs.Targets.{GoesSafely, IsPiece};
 ghost use Rattle.chess_moves.specs.Masks.{HoldsMasks};
 ghost use Rattle.chess_moves.specs.Counting.{IsFree, AreFree};
+ghost use Rattle.chess_moves.specs.Moves.{HasLegal};
 
 use crate::masks::Masks;
 use crate::pawns::{one_step, two_steps};
@@ -68,4 +69,36 @@ pub fn free_piece_goes(board: &Board, masks: &Masks, from: Square, kind: Kind) -
 {
     let own = men_of(board, board.side());
     attacked(board, from, kind).meet(masks.ends.without(own))
+}
+
+// Whether the first of the free knights has a legal move.
+fn has_knight_move(board: &Board, masks: &Masks) -> bool
+    requires { HoldsMasks board.now masks.now }
+    ensures { IsTrue result → HasLegal board.now }
+{
+    let own = men_of(board, board.side());
+    match free_of(board, masks, own, Kind::Knight).first() {
+        None => false,
+        Some(from) => !free_piece_goes(board, masks, from, Kind::Knight).is_empty(),
+    }
+}
+
+// Whether the first of the free pawns has one.
+fn has_pawn_move(board: &Board, masks: &Masks) -> bool
+    requires { HoldsMasks board.now masks.now }
+    ensures { IsTrue result → HasLegal board.now }
+{
+    let own = men_of(board, board.side());
+    match free_of(board, masks, own, Kind::Pawn).first() {
+        None => false,
+        Some(from) => !free_pawn_goes(board, masks, from).is_empty(),
+    }
+}
+
+/// Whether a free man that is soon looked at has a legal move.
+pub fn has_free_move(board: &Board, masks: &Masks) -> bool
+    requires { HoldsMasks board.now masks.now }
+    ensures { IsTrue result → HasLegal board.now }
+{
+    has_knight_move(board, masks) || has_pawn_move(board, masks)
 }

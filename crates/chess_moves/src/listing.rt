@@ -6,6 +6,7 @@ ghost use Rattle.chess_moves.specs.Masks.{HoldsMasks};
 ghost use Rattle.chess_moves.specs.Moves.{IsListOfLegalMoves, HasLegal, HasLegalFrom};
 ghost use Rattle.chess_moves.specs.Listing.{legal_from};
 
+use crate::free::has_free_move;
 use crate::masks::{Masks, masks_of};
 use crate::promotions::{Moves, push_choices};
 use crate::safe::safe_targets;
@@ -90,6 +91,9 @@ pub fn has_legal(board: &Board) -> bool
     ensures { IsTrue result ↔ HasLegal board.now }
 {
     let masks = masks_of(board);
+    if has_free_move(board, &masks) {
+        return true;
+    }
     // Most checks are answered by the king; without one, most often another man has a move.
     if masks.ends != Bits::from_word(u64::MAX) && has_legal_from(board, &masks, masks.king) {
         return true;

@@ -31,6 +31,9 @@ loop-from-init c (m, legal) =
     (IsOnBoard-from_man p.placement m.from (p.side, legal.candidate.kind) own)
     (has-own p.placement p.side legal.candidate.kind m.from own) (m, refl, legal))
 
+pub returns-then-has_free_move : goal.returns-then-has_free_move
+returns-then-has_free_move c = (λ yes. c.if-has_free_move.ensures refl, λ legal. refl)
+
 pub returns-then-has_legal_from : goal.returns-then-has_legal_from
 returns-then-has_legal_from c =
     let (m, there, legal) = c.if-has_legal_from.ensures.0 refl in
