@@ -1,5 +1,5 @@
 -- What a history of a game keeps, and the positions that it stands for.
-use Rattle.std.specs.Prelude.{ℕ, ◌≡◌, ◌≤◌, Bool, List, length, map, count_by, nat_eq}
+use Rattle.std.specs.Prelude.{ℕ, ◌≡◌, ◌≤◌, Bool, List, length, map, cond, count_by, nat_eq, Some}
 use Rattle.std.specs.Option.{unwrap_or}
 use Rattle.std.specs.Map.{lookup}
 use Rattle.std.specs.Cmp.Lexicographic.{pointwise}
@@ -19,6 +19,11 @@ is_key = pointwise nat_eq
 -- how often a key stood
 abbrev pub count_in : List (List ℕ × ℕ) → List ℕ → ℕ
 count_in counts key = unwrap_or (lookup (is_key key) counts) 0
+
+-- a key is given a count, and all others keep theirs
+abbrev pub IsGivenCount : List ℕ → List (List ℕ × ℕ) → List (List ℕ × ℕ) → ℕ → Type 0
+IsGivenCount key old new n =
+    (other : List ℕ) → lookup (is_key other) new ≡ cond (is_key key other) (Some n) (lookup (is_key other) old)
 
 -- The history is that of the list of positions: it has their halfmove clocks, and counts the members with each key.
 pub record IsHistoryOf (history : HistoryState) (list : List Position) : Type 0 where

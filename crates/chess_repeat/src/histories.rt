@@ -3,7 +3,7 @@ ghost use Rattle.chess_board.specs.Position.{Position};
 ghost use Rattle.chess_repeat.specs.Key.{key_of};
 ghost use Rattle.chess_repeat.specs.SamePosition.{IsTimes};
 ghost use Rattle.chess_repeat.specs.QuietRun.{quiet_run};
-ghost use Rattle.chess_repeat.specs.History.{count_in, IsHistoryOf};
+ghost use Rattle.chess_repeat.specs.History.{count_in, IsGivenCount, IsHistoryOf};
 
 use crate::keys::{key, key_from};
 use crate::whole_keys::WholeKey;
@@ -11,6 +11,24 @@ use chess_board::Board;
 use indexmap::IndexMap;
 use std::alloc::{AllocError, Global};
 use std::marker::Model;
+
+// Counts a key once more, and tells how often it stood then. One that is new, as most are, is looked up once. It fails
+// where memory is refused, and then the counts are as they were.
+fn count_more(counts: &mut IndexMap<WholeKey, u32>, key: [u8; 34]) -> Result<u32, AllocError>
+    requires few { count_in counts.old.entries key < 65535 }
+    ensures counted { IfOk result (IsGivenCount key counts.old.entries counts.new.entries) }
+    ensures more { IfOk result (λ n. n ≡ count_in counts.old.entries key + 1) }
+    ensures refused { OnErr result (counts.new.entries ≡ counts.old.entries) }
+{
+    match counts.insert(WholeKey::new(key), 1)? {
+        None => Ok(1),
+        Some(before) => {
+            let times = before + 1;
+            counts.insert(WholeKey::new(key), times).unwrap();
+            Ok(times)
+        }
+    }
+}
 
 /// The positions of a game in their order: of each its halfmove clock, and how often its key stood; and the last of
 /// them with its key, from which that of the next is made.
@@ -75,14 +93,12 @@ impl History {
     {
         let _valid = board.rights();
         let key = key_from(&self.last, &self.key, board);
-        let whole = WholeKey::new(key);
-        let count = self.count(&whole);
         self.clocks.reserve(1)?;
-        self.counts.insert(whole, count + 1)?;
+        let times = count_more(&mut self.counts, key)?;
         self.clocks.push(board.halfmove()).unwrap();
         self.last = *board;
         self.key = key;
-        Ok(count + 1)
+        Ok(times)
     }
 
     /// How many members of the history are the same position (FIDE articles 9.2 and 9.6.1). It is one look-up, and
