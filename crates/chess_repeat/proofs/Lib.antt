@@ -1,5 +1,6 @@
 pub mod Takers
 pub mod LiveTargets
+pub mod CodeBits
 pub mod KeyBytes
 pub mod KeyChanges
 pub mod SameKeys

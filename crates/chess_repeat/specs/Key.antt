@@ -8,8 +8,10 @@ use Rattle.chess_bits.specs.declared.men.Kind.{Kind}
 use Rattle.chess_bits.specs.declared.men.Kind.TheVariants.{Pawn, Knight, Bishop, Rook, Queen, King}
 use Rattle.chess_bits.specs.Square.{Square, squares, square_at, number_of}
 use Rattle.chess_bits.specs.Man.{Man, is_man, holds}
+use Rattle.chess_bits.specs.Table.{union}
 use Rattle.chess_bits.specs.Attack.{pawn_attacks, reaches}
 use Rattle.chess_board.specs.Position.{Position, Placement, Rights, man_at}
+use Rattle.chess_board.specs.Occupancy.{squares_with, is_a}
 use Rattle.chess_board.specs.Computing.{is_legal}
 use Rattle.chess_moves.specs.Targets.{plain}
 
@@ -26,6 +28,11 @@ kind_code King = 6
 abbrev pub man_code : Colour → Kind → ℕ
 man_code White kind = kind_code kind
 man_code Black kind = 8 + kind_code kind
+
+-- the squares with men of three kinds: of those whose codes have a bit
+abbrev pub squares_of_kinds : Kind → Kind → Kind → Placement → List Bool
+squares_of_kinds a b c placement =
+    union (squares_with (is_a a) placement) (union (squares_with (is_a b) placement) (squares_with (is_a c) placement))
 
 -- an empty square is 0
 abbrev pub here_code : Option Man → ℕ

@@ -7,40 +7,36 @@ ghost use Rattle.chess_board.specs.declared.moves.Move.{Move};
 ghost use Rattle.chess_board.specs.Position.{man_at, IsValid};
 ghost use Rattle.chess_moves.specs.Targets.{plain as plain_move};
 ghost use Rattle.chess_repeat.specs.SamePosition.{IsLegalEnPassant, HasLegalEnPassant, IsSamePosition};
-ghost use Rattle.chess_repeat.specs.Key.{kind_code, man_code, here_code, code_at, men_byte, men_bytes, state_byte};
+ghost use Rattle.chess_repeat.specs.Key.{squares_of_kinds, code_at, men_byte, men_bytes, state_byte};
 ghost use Rattle.chess_repeat.specs.Key.{side_bit, target_byte, is_live, key_of};
 
 use chess_attacks::pawn;
-use chess_bits::{Colour, Kind, Square};
-use chess_board::{Board, Move, Wing};
+use chess_bits::{Bits, Colour, Kind, Square};
+use chess_board::{Board, Men, Move, Wing};
 use chess_moves::legal;
 
-// The code of a kind, 1 to 6.
-fn kind_code(kind: Kind) -> u8
-    ensures code { result ≡ kind_code kind }
-    ensures below { result < 7 }
+// The squares with men of three kinds.
+fn of_kinds(men: &Men, first: Kind, second: Kind, third: Kind) -> Bits
+    ensures { result ≡ squares_of_kinds first second third men.now }
 {
-    match kind {
-        Kind::Pawn => 1,
-        Kind::Knight => 2,
-        Kind::Bishop => 3,
-        Kind::Rook => 4,
-        Kind::Queen => 5,
-        Kind::King => 6,
-    }
+    let others = men.of_kind(second).union(men.of_kind(third));
+    men.of_kind(first).union(others)
 }
 
 // The code of what stands on the square of a number: 0 for no man, 1 to 6 for a white one, 9 to 14 for a black one.
+// Each bit is looked up in a set, since a processor seldom foresees which kind of man stands there.
 fn code_at(board: &Board, number: u8) -> u8
     requires { number < 64 }
     ensures code { result ≡ code_at board.now.placement number }
     ensures below { result < 16 }
 {
-    match board.piece_at(Square::new(number)) {
-        None => 0,
-        Some((Colour::White, kind)) => kind_code(kind),
-        Some((Colour::Black, kind)) => 8 + kind_code(kind),
-    }
+    let square = Square::new(number);
+    let men = board.men();
+    let ones = of_kinds(men, Kind::Pawn, Kind::Bishop, Kind::Queen).contains(square);
+    let twos = of_kinds(men, Kind::Knight, Kind::Bishop, Kind::King).contains(square);
+    let fours = of_kinds(men, Kind::Rook, Kind::Queen, Kind::King).contains(square);
+    let black = men.of(Colour::Black).contains(square);
+    u8::from(ones) + 2 * u8::from(twos) + 4 * u8::from(fours) + 8 * u8::from(black)
 }
 
 // The byte of two squares.
