@@ -10,6 +10,7 @@ pub mod LineLemmas
 pub mod ManAfter
 pub mod MenChanges
 pub mod MenLemmas
+pub mod NoRights
 pub mod Moved
 pub mod Outward
 pub mod PlacementAfter

@@ -1,4 +1,4 @@
-use Rattle.std.specs.Prelude.{ℕ, ◌≡◌, ◌+◌, ◌*◌, ◌<◌, ◌==◌, cond}
+use Rattle.std.specs.Prelude.{ℕ, ◌≡◌, ◌+◌, ◌*◌, ◌<◌, ◌==◌, cond, false}
 use Rattle.std.specs.Int.{bit_at}
 use Rattle.std.proofs.Common.{arith, ap}
 use Rattle.std.proofs.lemmas.Bool.Decides.{nat_tests}
@@ -13,6 +13,10 @@ rights_of flags = record {
   black_king = bit_at flags.0 2 == 1;
   black_queen = bit_at flags.0 3 == 1;
 }
+
+-- neither side may castle any more
+abbrev pub no_rights : Rights
+no_rights = record { white_king = false; white_queen = false; black_king = false; black_queen = false }
 
 -- no other bit is set
 abbrev pub HasKnownFlags : CastlingRights → Type 0

@@ -243,6 +243,9 @@ impl Board {
         ensures rights { rights_of result ≡ after.rights_after self.now mv.now }
         ensures known { HasKnownFlags result }
     {
+        if self.rights.is_none() {
+            return self.rights;
+        }
         CastlingRights::of(
             self.keeps_right(mv, Colour::White, Wing::King),
             self.keeps_right(mv, Colour::White, Wing::Queen),

@@ -1,8 +1,8 @@
-ghost use Rattle.std.specs.Prelude.{⊤, ◌≡◌, ◌<◌, [], ◌∷◌, codes};
+ghost use Rattle.std.specs.Prelude.{⊤, ◌≡◌, ◌<◌, [], ◌∷◌, ◌↔◌, codes, IsTrue};
 ghost use Rattle.chess_board.specs.Position.{has_right, home_rank as spec_home_rank, king_home as spec_king_home};
 ghost use Rattle.chess_board.specs.Position.{rook_home as spec_rook_home};
 ghost use Rattle.chess_board.specs.Next.{castled_king as spec_castled_king, castled_rook as spec_castled_rook};
-ghost use Rattle.chess_board.specs.RightsOf.{rights_of, HasKnownFlags};
+ghost use Rattle.chess_board.specs.RightsOf.{rights_of, no_rights, HasKnownFlags};
 
 use bitflags::{Flag, Flags, bitflag_items};
 use chess_bits::{Colour, Square};
@@ -88,6 +88,16 @@ impl CastlingRights {
             self.allows(Colour::Black, Wing::King),
             self.allows(Colour::Black, Wing::Queen),
         )
+    }
+
+    // Whether no right is left.
+    pub(crate) fn is_none(self) -> bool
+        ensures { IsTrue result ↔ (rights_of self ≡ no_rights) }
+    {
+        !(self.allows(Colour::White, Wing::King)
+            | self.allows(Colour::White, Wing::Queen)
+            | self.allows(Colour::Black, Wing::King)
+            | self.allows(Colour::Black, Wing::Queen))
     }
 
     /// Whether the colour may still castle to the wing (FIDE article 3.8.2.1).
