@@ -31,8 +31,12 @@ has-kinds a b c placement s =
     let all : length A ≡ length (union B C) =
     length-map placement (holds (is_a a)) ∙ sym (length-union B C same ∙ length-map placement (holds (is_a b))) in
     has-union A (union B C) s all
-    ∙ rw (has-union B C s same, has-squares_with (is_a a) placement s, has-squares_with (is_a b) placement s,
-    has-squares_with (is_a c) placement s) refl
+    ∙ rw (
+      has-union B C s same,
+      has-squares_with (is_a a) placement s,
+      has-squares_with (is_a b) placement s,
+      has-squares_with (is_a c) placement s,
+    ) refl
 
 bits : Option Man → ℕ
 bits here =
@@ -62,8 +66,12 @@ pub set_bits-code : (placement : Placement) (s : Square) →
     + 8 * from_bool (has (squares_with (is_of Black) placement) s) ≡ here_code (man_at placement s)
 unfolding bits
 set_bits-code placement s =
-    rw (has-kinds Pawn Bishop Queen placement s, has-kinds Knight Bishop King placement s,
-    has-kinds Rook Queen King placement s, has-squares_with (is_of Black) placement s)
+    rw (
+      has-kinds Pawn Bishop Queen placement s,
+      has-kinds Knight Bishop King placement s,
+      has-kinds Rook Queen King placement s,
+      has-squares_with (is_of Black) placement s,
+    )
     (bits-code (man_at placement s))
 
 pub here_code-below : (here : Option Man) → here_code here < 16
