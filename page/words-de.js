@@ -1012,4 +1012,13 @@ export const WORDS = {
   'The disk has no room for the lobby’s log: no new game begins until it has. Games that were begun go on.':
     'Auf der Platte ist kein Platz für das Protokoll der Lobby: bis wieder welcher da ist, beginnt keine neue '
     + 'Partie. Begonnene gehen weiter.',
+  'The position on the board stands for the first time.': 'Die Stellung auf dem Brett steht zum ersten Mal da.',
+  'The position on the board has stood {0} times.': 'Die Stellung auf dem Brett stand schon {0}-mal da.',
+  'The full names stand above as short ones now, as chess-club start takes them.':
+    'Die vollen Namen stehen oben jetzt als kurze, wie chess-club start sie nimmt.',
+  '{0} is the full name of {1}: write which of them it is':
+    '{0} ist der volle Name von {1}: schreibe, wer davon gemeint ist',
+  'These signs cannot be sent: {0}. Write it without them.':
+    'Diese Zeichen lassen sich nicht senden: {0}. Schreibe es ohne sie.',
+  'It is told so: {0}': 'So wird es gesagt: {0}',
 };

@@ -996,4 +996,12 @@ export const WORDS = {
   'The disk has no room for the lobby’s log: no new game begins until it has. Games that were begun go on.':
     'Não há espaço no disco para o registro do lobby: até haver, nenhuma partida nova começa. As já começadas '
     + 'continuam.',
+  'The position on the board stands for the first time.': 'A posição no tabuleiro acontece pela primeira vez.',
+  'The position on the board has stood {0} times.': 'A posição no tabuleiro já aconteceu {0} vezes.',
+  'The full names stand above as short ones now, as chess-club start takes them.':
+    'Os nomes completos estão agora acima como nomes curtos, como chess-club start os aceita.',
+  '{0} is the full name of {1}: write which of them it is': '{0} é o nome completo de {1}: escreva qual deles é',
+  'These signs cannot be sent: {0}. Write it without them.':
+    'Estes sinais não podem ser enviados: {0}. Escreva sem eles.',
+  'It is told so: {0}': 'Será dito assim: {0}',
 };
