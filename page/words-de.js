@@ -763,10 +763,10 @@ export const WORDS = {
   'Delete from here': 'Ab hier löschen',
   'Put another game here': 'Eine andere Partie hierher',
   'Start anew': 'Neu beginnen',
-  ['Both players are told that it is adjourned. In the record this game stays a draw. The game that goes on '
-    + 'with it later is the board’s.']:
-    'Beiden Spielern wird gesagt, dass sie vertagt ist. In der Aufzeichnung bleibt diese Partie remis. Für das '
-    + 'Brett zählt die Partie, die sie später fortsetzt.',
+  ['Both players are told that it is adjourned. In the record this game stays a draw, and standings count it so '
+    + 'until the game that goes on with it is the board’s.']:
+    'Beiden Spielern wird gesagt, dass sie vertagt ist. In der Aufzeichnung bleibt diese Partie remis, und so '
+    + 'zählt die Tabelle sie, bis für das Brett die Partie gilt, die sie fortsetzt.',
   'The sheet of links': 'Das Blatt mit den Links',
   'Print': 'Drucken',
   'FEN or PGN': 'FEN oder PGN',

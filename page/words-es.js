@@ -757,10 +757,10 @@ export const WORDS = {
   'Delete from here': 'Borrar desde aquí',
   'Put another game here': 'Poner otra partida',
   'Start anew': 'Empezar de nuevo',
-  ['Both players are told that it is adjourned. In the record this game stays a draw. The game that goes on '
-    + 'with it later is the board’s.']:
-    'A ambos jugadores se les dice que se aplaza. En el registro esta partida queda en tablas. Para el tablero '
-    + 'cuenta la partida que la reanude después.',
+  ['Both players are told that it is adjourned. In the record this game stays a draw, and standings count it so '
+    + 'until the game that goes on with it is the board’s.']:
+    'A ambos jugadores se les dice que se aplaza. En el registro esta partida queda en tablas, y la clasificación'
+    + ' la cuenta así hasta que valga para el tablero la partida que la reanude.',
   'The sheet of links': 'La hoja de enlaces',
   'Print': 'Imprimir',
   'FEN or PGN': 'FEN o PGN',

@@ -768,10 +768,10 @@ export const WORDS = {
   'Delete from here': 'Effacer à partir d’ici',
   'Put another game here': 'Mettre une autre partie',
   'Start anew': 'Recommencer',
-  ['Both players are told that it is adjourned. In the record this game stays a draw. The game that goes on '
-    + 'with it later is the board’s.']:
-    'Les deux joueurs apprennent qu’elle est ajournée. Dans l’enregistrement, cette partie reste nulle. C’est la '
-    + 'partie qui la reprendra plus tard qui compte pour l’échiquier.',
+  ['Both players are told that it is adjourned. In the record this game stays a draw, and standings count it so '
+    + 'until the game that goes on with it is the board’s.']:
+    'Les deux joueurs apprennent qu’elle est ajournée. Dans l’enregistrement, cette partie reste nulle, et le '
+    + 'classement la compte ainsi jusqu’à ce que la partie qui la reprend soit celle de l’échiquier.',
   'The sheet of links': 'La feuille des liens',
   'Print': 'Imprimer',
   'FEN or PGN': 'FEN ou PGN',

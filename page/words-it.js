@@ -761,10 +761,10 @@ export const WORDS = {
   'Delete from here': 'Cancella da qui',
   'Put another game here': 'Metti un’altra partita',
   'Start anew': 'Ricomincia',
-  ['Both players are told that it is adjourned. In the record this game stays a draw. The game that goes on '
-    + 'with it later is the board’s.']:
-    'A entrambi i giocatori si dice che è aggiornata. Nel registro questa partita resta patta. Per la scacchiera '
-    + 'vale la partita che poi la riprende.',
+  ['Both players are told that it is adjourned. In the record this game stays a draw, and standings count it so '
+    + 'until the game that goes on with it is the board’s.']:
+    'A entrambi i giocatori si dice che è aggiornata. Nel registro questa partita resta patta, e la classifica la'
+    + ' conta così finché per la scacchiera non vale la partita che la riprende.',
   'The sheet of links': 'Il foglio dei link',
   'Print': 'Stampa',
   'FEN or PGN': 'FEN o PGN',

@@ -763,10 +763,10 @@ export const WORDS = {
   'Delete from here': 'Vanaf hier wissen',
   'Put another game here': 'Een andere partij neerzetten',
   'Start anew': 'Opnieuw beginnen',
-  ['Both players are told that it is adjourned. In the record this game stays a draw. The game that goes on '
-    + 'with it later is the board’s.']:
-    'Beide spelers krijgen te horen dat ze is afgebroken. In de boeken blijft deze partij remise. Voor het bord '
-    + 'telt de vervolgpartij.',
+  ['Both players are told that it is adjourned. In the record this game stays a draw, and standings count it so '
+    + 'until the game that goes on with it is the board’s.']:
+    'Beide spelers krijgen te horen dat ze is afgebroken. In de boeken blijft deze partij remise, en de stand '
+    + 'telt haar zo tot voor het bord de vervolgpartij telt.',
   'The sheet of links': 'Het vel met links',
   'Print': 'Afdrukken',
   'FEN or PGN': 'FEN of PGN',

@@ -754,10 +754,10 @@ export const WORDS = {
   'Delete from here': 'Usuń odtąd',
   'Put another game here': 'Wstaw inną partię',
   'Start anew': 'Zacznij od nowa',
-  ['Both players are told that it is adjourned. In the record this game stays a draw. The game that goes on '
-    + 'with it later is the board’s.']:
-    'Obaj gracze dowiadują się, że jest odłożona. W zapisie ta partia pozostaje remisem. Dla szachownicy liczy '
-    + 'się partia, która ją później wznowi.',
+  ['Both players are told that it is adjourned. In the record this game stays a draw, and standings count it so '
+    + 'until the game that goes on with it is the board’s.']:
+    'Obaj gracze dowiadują się, że jest odłożona. W zapisie ta partia pozostaje remisem i klasyfikacja tak ją liczy, '
+    + 'dopóki dla szachownicy nie liczy się partia, która ją wznawia.',
   'The sheet of links': 'Arkusz z linkami',
   'Print': 'Drukuj',
   'FEN or PGN': 'FEN lub PGN',

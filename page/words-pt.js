@@ -752,10 +752,10 @@ export const WORDS = {
   'Delete from here': 'Apagar daqui em diante',
   'Put another game here': 'Pôr outra partida',
   'Start anew': 'Recomeçar',
-  ['Both players are told that it is adjourned. In the record this game stays a draw. The game that goes on '
-    + 'with it later is the board’s.']:
-    'Os dois jogadores ficam sabendo que ela foi adiada. No registro esta partida fica empatada. Para o '
-    + 'tabuleiro vale a partida que depois a retoma.',
+  ['Both players are told that it is adjourned. In the record this game stays a draw, and standings count it so '
+    + 'until the game that goes on with it is the board’s.']:
+    'Os dois jogadores ficam sabendo que ela foi adiada. No registro esta partida fica empatada, e a '
+    + 'classificação a conta assim até que valha para o tabuleiro a partida que a retoma.',
   'The sheet of links': 'A folha de links',
   'Print': 'Imprimir',
   'FEN or PGN': 'FEN ou PGN',
