@@ -1,11 +1,11 @@
-"""Standings of players and teams by the articles of FIDE's Handbook, C.07 (Tie-Break Regulations, in force from 1 August
-2024), reckoned over pairs of players, by one who knows nothing of the program."""
+"""Standings of players and teams by the articles of FIDE's Handbook, C.07 (Tie-Break Regulations, in force from 1
+August 2024), reckoned over pairs of players, by one who knows nothing of the program."""
 import itertools
 from fractions import Fraction
 
 HALF = Fraction(1, 2)
 BYES = {"U": Fraction(1), "F": Fraction(1), "H": HALF, "Z": Fraction(0)}
-# What each side has by a result, and its sign in a report and the crosstable. `=/=` is a match that was drawn by forfeits.
+# What each side has by a result, and its sign in a report and the crosstable. `=/=` is a match drawn by forfeits.
 RESULTS = {"1-0": (1, 0, "1", "0"), "0-1": (0, 1, "0", "1"), "1/2-1/2": (HALF, HALF, "=", "="),
            "1/2-0": (HALF, 0, "=", "0"), "0-1/2": (0, HALF, "0", "="), "0-0": (0, 0, "0", "0"),
            "+/-": (1, 0, "+", "-"), "-/+": (0, 1, "-", "+"), "-/-": (0, 0, "-", "-"), "*": (0, 0, " ", " "),
@@ -15,7 +15,7 @@ FORFEITS = ("+/-", "-/+", "-/-", "=/=")
 
 
 class Tournament:
-    """Rounds of boards `(white, black, result)` of players by their numbers from 0 on, of a bye `(player, None, sign)`."""
+    """Rounds of boards `(white, black, result)`, players by numbers from 0 on; of a bye `(player, None, sign)`."""
 
     def __init__(self, count, rounds):
         self.players = range(count)

@@ -1,4 +1,5 @@
-"""The arbiter of a league's night, who says what the desk sends for each button (page/README.md, "The arbiter's desk")."""
+"""The arbiter of a league's night, who says what the desk sends for each button (page/README.md, "The arbiter's
+desk")."""
 import asyncio
 
 from league_games import AWAY
@@ -94,7 +95,7 @@ class Desk:
         result = FORFEITS[sides]
         await self.decide(number, board, result, '6.7', who if sides == 'wb' else who + ' not come in time')
         answer = await self.say(f'as {names[LOSERS.get(result, side)]} resign {game}')
-        wrong_if(not answer.startswith(('ok resign ', 'no 6 ', 'no 3 ')), f'game {game}, to which nobody came: {answer}')
+        wrong_if(not answer.startswith(('ok resign ', 'no 6 ', 'no 3 ')), f'game {game} does not end: {answer}')
 
     # What is adjourned.
 

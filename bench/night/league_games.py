@@ -80,7 +80,8 @@ class Plan:
     def own_texts(self, quiet):
         known = {'mate': MATES[self.dice.choice(list(MATES))], 'stalemate': STALEMATE, 'dead': DEAD,
                  'three': KNIGHTS + ' ' + KNIGHTS, 'three by a move': KNIGHTS + ' ' + KNIGHTS,
-                 'five': ' '.join([KNIGHTS] * 4), 'no mate on time': BISHOP_ALONE, 'no mate resigned': BISHOP_ALONE}
+                 'five': ' '.join([KNIGHTS] * 4), 'no mate on time': BISHOP_ALONE,
+                 'no mate resigned': BISHOP_ALONE + ' Rxg8'}
         if self.kind in ('fifty', 'seventy-five'):
             return quiet[:104] if self.kind == 'fifty' else quiet
         return known[self.kind].split() if self.kind in known else None
@@ -142,7 +143,7 @@ class Plan:
         if kind in AWAY or kind == 'adjourned':
             return None
         if kind == 'no mate resigned':
-            return f'resign {game}' if on_move else None
+            return f'resign {game}' if mine == 'b' else None
         if kind in ('resign', 'resign at once', 'random') or self.texts and ply > self.length + 1:
             return f'resign {game}' if mine == self.who else None
         if kind in ('three', 'three by a move', 'fifty'):
