@@ -242,17 +242,22 @@ function likely({ ply, article, result, fen }, absent, law) {
     return { result: FORFEIT[sides], article: '6.7', reason: sides.length > 1 ? t`neither player came in time`
       : t`${colourWord(sides)} did not come in time` };
   }
-  if (loser && LOST_BY.includes(article) && (law ? law.found === 'cannot' : !mayMate(OTHER[loser], fen))) {
+  if (loser && LOST_BY.includes(article) && (isFound(law) ? law.found === 'cannot' : !mayMate(OTHER[loser], fen))) {
     return { result: '1/2-1/2', article, reason: t`${colourWord(OTHER[loser])} cannot mate by any legal moves` };
   }
   return { result: '', article: '', reason: '' };
 }
 
+/** Whether the round's file tells of a game whether its winner can mate. */
+function isFound(law) {
+  return Boolean(law) && law.found !== 'unknown';
+}
+
 /** What the Laws say of it, where the round's file tells that; else by the men alone. */
 function saidByLaws(standing, law) {
-  if (law) return `${lawWords(law)}. ${whyWords(law)}`.trim();
-
   const { article, ply, fen } = standing, loser = loserOf(standing);
+  if (law && (isFound(law) || !loser || mayMate(OTHER[loser], fen))) return `${lawWords(law)}. ${whyWords(law)}`.trim();
+
   if (isAbsent(standing)) {
     return t`By 6.7 who comes after the default time loses, unless the arbiter decides otherwise. The decision ends the
       game: a resignation is entered for who has not come.`;
