@@ -176,7 +176,8 @@ export class GameView {
     const number = this.number;
     if (!number || !this.app.reachable()) return;
     const ours = (answer) => (this.number === number && answer[0].startsWith('ok ') ? answer : null);
-    const wire = this.app.wire, asked = [this.app.watch(number), wire.say(`line ${number}`), wire.say(`pgn ${number}`)];
+    // (A move that is said meanwhile waits for no line that stands in front of it, but for all else.)
+    const wire = this.app.wire, asked = [this.app.watch(number), wire.say(`pgn ${number}`), wire.say(`line ${number}`)];
     const watched = await asked[0];
     const refusal = readRefusal(watched[0]);
     if (this.number !== number) return;
@@ -186,10 +187,10 @@ export class GameView {
     }
     const standing = ours(watched) && readStanding(watched.slice(1));
     if (standing && this.stand(standing)) this.over();
-    const line = ours(await asked[1]);
-    if (line) this.line = readLine(line.slice(1));
-    const pgn = ours(await asked[2]);
+    const pgn = ours(await asked[1]);
     if (pgn) this.tags = readPgn(pgn.slice(1)).tags;
+    const line = ours(await asked[2]);
+    if (line) this.line = readLine(line.slice(1));
     if (this.number !== number) return;
     if (standing && line) this.isThere();
     else this.refreshLater();
