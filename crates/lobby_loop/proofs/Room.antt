@@ -457,11 +457,11 @@ module _ (at : ℕ) where
       elim (cases (counted o class p)) [
         | inl is_so ↦
             let too : counted None class p ≡ true = and_right (is_at o p) (counted None class p) is_so in
-            let one : cond (counted o class p) 1 0 ≡ 1 = rw is_so refl in
-            let other : cond (counted None class p) 1 0 ≡ 1 = rw too refl in
+            let one : ◌≡◌ {A = ℕ} (cond (counted o class p) 1 0) 1 = rw is_so refl in
+            let other : ◌≡◌ {A = ℕ} (cond (counted None class p) 1 0) 1 = rw too refl in
             omega (arith, here, there, one, other, count_in_all o class ps)
         | inr not_so ↦
-            let one : cond (counted o class p) 1 0 ≡ 0 = rw not_so refl in
+            let one : ◌≡◌ {A = ℕ} (cond (counted o class p) 1 0) 0 = rw not_so refl in
             omega (arith, here, there, one, count_in_all o class ps)
       ]
 
