@@ -13,7 +13,7 @@ use Rattle.websocket.specs.Content.{text as Text, ping as Ping}
 use Rattle.lobby_desk.specs.declared.telling.Message.{Message}
 use Rattle.lobby_desk.specs.Events.{Closed}
 use Rattle.lobby_desk.specs.declared.desk.Desk.{Desk}
-use Rattle.lobby_desk.specs.Who.{IsReady}
+use Rattle.lobby_desk.specs.Who.{IsReady, is_owed}
 use Rattle.lobby_web.specs.declared.site.Site.{Site}
 use Rattle.lobby_web.specs.declared.socket.Heard.{Heard}
 use Rattle.lobby_web.specs.declared.socket.Heard.TheVariants as heards
@@ -302,10 +302,10 @@ earlier None b = b
 earlier (Some a) None = Some a
 earlier (Some a) (Some b) = Some (min a b)
 
--- Nothing is owed to the connection that asked last, or it acts for nobody any more, as where it is gone.
+-- Nothing is owed to the connection that asked last, be it gone or not.
 abbrev pub IsAnswered : Desk → Option ℕ → Type 0
 IsAnswered desk None = Unit {0}
-IsAnswered desk (Some c) = (acts_at desk (Some c) ≡ false) ⊎ IsReady desk c
+IsAnswered desk (Some c) = is_owed desk c ≡ false
 
 -- Its socket is asked what came next, where it may be.
 pub record IsHeardNow {S : Type 0} (at : ℕ) (old new : Guest S) (talk after : Talk) : Type 0 where

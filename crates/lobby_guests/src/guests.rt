@@ -62,13 +62,13 @@ fn attend<S: Read + Write, K: KeepsLinks>(
     Ok(has_read | has_heard)
 }
 
-// Whether the server has answered what this connection asked last.
+// Whether the server has answered what this connection asked last, be it gone or not.
 fn is_answered(asker: Option<u64>, talk: &Talk) -> bool
     ensures { IsTrue result ↔ IsAnswered talk.now.desk asker }
 {
     match asker {
         None => true,
-        Some(number) => !talk.acts(asker) || talk.desk().is_ready(number),
+        Some(number) => !talk.desk().is_owed(number),
     }
 }
 
