@@ -338,9 +338,10 @@ pub record IsActing {S : Type 0} (at : ℕ) (old new : Guest S) (room after : As
   pub long : after.long ≡ room.long
   pub asker : after.asker ≡ room.asker
 
--- All else has its turn: what asks for little, and
+-- All else has its turn where it may be asked: what asks for little, and
 pub record IsBrief {S : Type 0} (at : ℕ) (old new : Guest S) (room after : Asking) : Type 0 where
   pub little : has_brief (unread old.browser.stage) ≡ true
+  pub may : MayBeAsked room.talk.desk old
   pub heard : IsHeardNow at old new room.talk after.talk
   pub turn : is_at old.key room.brief ≡ true
   pub brief : after.brief ≡ behind old.key room.brief
@@ -350,6 +351,7 @@ pub record IsBrief {S : Type 0} (at : ℕ) (old new : Guest S) (room after : Ask
 -- what may ask for much, in a round of its own.
 pub record IsLong {S : Type 0} (at : ℕ) (old new : Guest S) (room after : Asking) : Type 0 where
   pub much : has_brief (unread old.browser.stage) ≡ false
+  pub may : MayBeAsked room.talk.desk old
   pub heard : IsHeardNow at old new room.talk after.talk
   pub turn : is_at old.key room.long ≡ true
   pub brief : after.brief ≡ room.brief
