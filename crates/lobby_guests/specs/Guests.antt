@@ -234,6 +234,11 @@ begun most next round = record round {
 abbrev pub over : Round → Round
 over round = record round { from = if nat_lt 0 round.left then 0 else round.from }
 
+-- Whether others can have a turn at once in a round of which this is left when a turn of the lobby ends: so many had one
+-- as could, or those before them had none.
+abbrev pub has_later : Round → Bool
+has_later round = round.left == 0 || round.has_passed
+
 -- what players may still ask in a turn that is no act, over all connections: the rounds of what asks for little and of
 -- what may ask for much; and whose was taken last of these, by its number at the desk, until that is answered; until
 -- when each player has paid for his acts, and from when on the first of those may be taken that wait for that
