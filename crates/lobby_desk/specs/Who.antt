@@ -187,9 +187,13 @@ known desk = record {
   misnamed = desk.line.is_misnamed;
 }
 
+-- whether the server has not answered yet what a connection asked, which may be gone
+abbrev pub is_owed : Desk → ℕ → Bool
+is_owed desk c = owes (known desk).owed c
+
 -- the connection is open, and no answer is owed to it
 abbrev pub IsReady : Desk → ℕ → Type 0
-IsReady desk c = (open_of desk c ≡ true) × (owes (known desk).owed c ≡ false)
+IsReady desk c = (open_of desk c ≡ true) × (is_owed desk c ≡ false)
 
 -- what is seen of a desk: the number of the connection that comes next, which are open, for whom each acts, the name
 -- that was said last to the server, whether that is there, what an arbiter has halted, how many games may be, what is

@@ -13,7 +13,7 @@ use Rattle.websocket.specs.Content.{text as Text, ping as Ping}
 use Rattle.lobby_desk.specs.declared.telling.Message.{Message}
 use Rattle.lobby_desk.specs.Events.{Closed}
 use Rattle.lobby_desk.specs.declared.desk.Desk.{Desk}
-use Rattle.lobby_desk.specs.Who.{IsReady}
+use Rattle.lobby_desk.specs.Who.{IsReady, is_owed}
 use Rattle.lobby_web.specs.declared.site.Site.{Site}
 use Rattle.lobby_web.specs.declared.socket.Heard.{Heard}
 use Rattle.lobby_web.specs.declared.socket.Heard.TheVariants as heards
@@ -235,6 +235,11 @@ begun most next round = record round {
 abbrev pub over : Round → Round
 over round = record round { from = if nat_lt 0 round.left then 0 else round.from }
 
+-- Whether others can have a turn at once in a round of which this is left when a turn of the lobby ends: so many had one
+-- as could, or those before them had none.
+abbrev pub has_later : Round → Bool
+has_later round = round.left == 0 || round.has_passed
+
 -- what players may still ask in a turn that is no act, over all connections: the rounds of what asks for little and of
 -- what may ask for much; and whose was taken last of these, by its number at the desk, until that is answered; until
 -- when each player has paid for his acts, and from when on the first of those may be taken that wait for that
@@ -303,10 +308,10 @@ earlier None b = b
 earlier (Some a) None = Some a
 earlier (Some a) (Some b) = Some (min a b)
 
--- Nothing is owed to the connection that asked last, or it acts for nobody any more, as where it is gone.
+-- Nothing is owed to the connection that asked last, be it gone or not.
 abbrev pub IsAnswered : Desk → Option ℕ → Type 0
 IsAnswered desk None = Unit {0}
-IsAnswered desk (Some c) = (acts_at desk (Some c) ≡ false) ⊎ IsReady desk c
+IsAnswered desk (Some c) = is_owed desk c ≡ false
 
 -- Its socket is asked what came next just where it may be.
 pub record IsHeardNow {S : Type 0} (at : ℕ) (old new : Guest S) (talk after : Talk) : Type 0 where
@@ -342,9 +347,10 @@ pub record IsActing {S : Type 0} (at : ℕ) (old new : Guest S) (room after : As
   pub long : after.long ≡ room.long
   pub asker : after.asker ≡ room.asker
 
--- All else has its turn: what asks for little, and
+-- All else has its turn where it may be asked: what asks for little, and
 pub record IsBrief {S : Type 0} (at : ℕ) (old new : Guest S) (room after : Asking) : Type 0 where
   pub little : has_brief (unread old.browser.stage) ≡ true
+  pub may : MayBeAsked room.talk.desk old
   pub heard : IsHeardNow at old new room.talk after.talk
   pub turn : is_at old.key room.brief ≡ true
   pub brief : after.brief ≡ behind old.key room.brief
@@ -354,6 +360,7 @@ pub record IsBrief {S : Type 0} (at : ℕ) (old new : Guest S) (room after : Ask
 -- what may ask for much, in a round of its own.
 pub record IsLong {S : Type 0} (at : ℕ) (old new : Guest S) (room after : Asking) : Type 0 where
   pub much : has_brief (unread old.browser.stage) ≡ false
+  pub may : MayBeAsked room.talk.desk old
   pub heard : IsHeardNow at old new room.talk after.talk
   pub turn : is_at old.key room.long ≡ true
   pub brief : after.brief ≡ room.brief

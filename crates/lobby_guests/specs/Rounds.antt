@@ -46,9 +46,9 @@ TakesLong guest old new =
     (has_brief (unread guest.browser.stage) ≡ false) × (is_at guest.key old.long ≡ true)
     × (new ≡ record old { long = behind guest.key old.long; asker = guest.number })
 
--- One in whose front no act stands has such a turn; or it may not be asked, or it is not its turn.
+-- One in whose front no act stands has such a turn, where it may be asked; or it may not be, or it is not its turn.
 abbrev pub TakesTurn : {S : Type 0} → Bool → Desk → Guest S → Asks → Asks → Type 0
-TakesTurn true desk guest old new = TakesBrief guest old new ⊎ TakesLong guest old new
+TakesTurn true desk guest old new = MayBeAsked desk guest × (TakesBrief guest old new ⊎ TakesLong guest old new)
 TakesTurn false desk guest old new =
     (new ≡ old) × (MayBeAsked desk guest → is_turn_of guest old.brief old.long ≡ false)
 

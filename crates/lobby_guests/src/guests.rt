@@ -10,6 +10,7 @@ ghost use Rattle.lobby_talk.specs.Counting.{counted_up};
 ghost use Rattle.lobby_guests.specs.Guests as guests;
 ghost use Rattle.lobby_guests.specs.Guests.{IsLeftAlone, IsSettled, IsServed, IsPlayersTurn, IsOthersTurn, InTurn};
 ghost use Rattle.lobby_guests.specs.Guests.{IsPlayerServed, IsAnswered, KnowsAsks, Asking, full_asking, asking_over};
+ghost use Rattle.lobby_guests.specs.Guests.{has_later};
 ghost use Rattle.lobby_guests.specs.Guests.{Room, full_room, next_name};
 ghost use Rattle.lobby_guests.specs.Rounds.{room_of, others_room, TakesTurn, HasTurn, IsToAsk};
 ghost use Rattle.lobby_guests.specs.Guests.{AreAttended, AreTold, AreDelivered, IsWritten, IsLookedAfter, IsClosedIf};
@@ -62,13 +63,13 @@ fn attend<S: Read + Write, K: KeepsLinks>(
     Ok(has_read | has_heard)
 }
 
-// Whether the server has answered what this connection asked last.
+// Whether the server has answered what this connection asked last, be it gone or not.
 fn is_answered(asker: Option<u64>, talk: &Talk) -> bool
     ensures { IsTrue result ↔ IsAnswered talk.now.desk asker }
 {
     match asker {
         None => true,
-        Some(number) => !talk.acts(asker) || talk.desk().is_ready(number),
+        Some(number) => !talk.desk().is_owed(number),
     }
 }
 
@@ -194,9 +195,12 @@ fn attend_players<S: Read + Write, K: KeepsLinks>(
     piece: &mut [u8; PIECE_ROOM],
     coming: &mut Coming,
 ) -> Result<bool, AllocError>
-    ensures { OnOk result ((is_free : Bool) × (IsTrue is_free ↔ IsAnswered talk.old.desk asks.old.asker)
+    ensures turned { OnOk result ((is_free : Bool) × (IsTrue is_free ↔ IsAnswered talk.old.desk asks.old.asker)
         × (said : Asking) × InTurn (IsPlayersTurn S.remaining site.now at) guests.old.items guests.new.items
         (full_asking is_free (next_name guests.old.items) talk.old asks.old) said × (room_of talk.new asks.new ≡ asking_over said)) }
+    ensures brief { IfOk result (λ any. has_later asks.new.brief ≡ true → any ≡ true) }
+    ensures long { IfOk result (λ any. IsAnswered talk.old.desk asks.old.asker → has_later asks.new.long ≡ true
+        → any ≡ true) }
 {
     let mut any = false;
     let is_free = is_answered(asks.asker, talk);
@@ -280,7 +284,7 @@ fn attend_unless<S: Read + Write, K: KeepsLinks>(
 }
 
 /// Reads for players, and says to the desk what came next of each of them; and then for some of those who act for
-/// nobody, who wait in a short turn. It tells whether there was anything of players.
+/// nobody, who wait in a short turn. It tells whether there was anything of players, or more of it can be taken at once.
 pub fn attend_all<S: Read + Write, K: KeepsLinks>(
     guests: &mut Vec<Guest<S>>,
     rounds: &mut Rounds,
@@ -296,6 +300,9 @@ pub fn attend_all<S: Read + Write, K: KeepsLinks>(
         talk.old talk.new) × (is_short ≡ true → LeavesOthers attended)
         × KnowsAsks rounds.old.asks rounds.new.asks attended) }
     ensures logins { OnOk result (counts.new.logins_refused ≡ counts.old.logins_refused) }
+    ensures brief { IfOk result (λ any. has_later rounds.new.asks.brief ≡ true → any ≡ true) }
+    ensures long { IfOk result (λ any. IsAnswered talk.old.desk rounds.old.asks.asker
+        → has_later rounds.new.asks.long ≡ true → any ≡ true) }
 {
     let mut coming = NOTHING_CAME;
     let players = attend_players(

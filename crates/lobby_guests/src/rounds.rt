@@ -1,7 +1,7 @@
 //! Whose turn it is where a turn of the lobby does not do what is to be done for all: a few in each, in a round.
 ghost use Rattle.std.specs.Prelude.{ℕ, ◌≡◌, ◌<◌, ◌≤◌, ◌+◌, ◌-◌, ◌*◌, ◌^◌, true, false, OnOk};
 ghost use Rattle.std.specs.Prelude.{List, length};
-ghost use Rattle.lobby_guests.specs.Guests.{others_most, is_at, behind, begun, over, begun_asks};
+ghost use Rattle.lobby_guests.specs.Guests.{others_most, is_at, behind, begun, over, begun_asks, has_later};
 ghost use Rattle.lobby_guests.specs.Paces.{paid_by, ActsAt, AreBetween};
 ghost use Rattle.lobby_guests.specs.Rounds.{LetsAct, PaysAct};
 
@@ -75,7 +75,8 @@ impl Round {
     /// All had a turn who could have one: it begins anew with the first just where more could have had one. It tells
     /// whether others can at once.
     pub fn end(&mut self) -> bool
-        ensures { self.new ≡ over self.old }
+        ensures over { self.new ≡ over self.old }
+        ensures more { result ≡ has_later self.new }
     {
         if self.left == 0 {
             return true;

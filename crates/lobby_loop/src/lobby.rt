@@ -4,7 +4,7 @@ ghost use Rattle.std.specs.Prelude.{IfOk, OnOk, OnErr};
 ghost use Rattle.mio.specs.declared.net.stream.TcpStream.{TcpStream};
 ghost use Rattle.mio.specs.declared.net.uds.stream.UnixStream.{UnixStream};
 ghost use Rattle.either.specs.declared.Either.{Either};
-ghost use Rattle.lobby_guests.specs.Guests.{is_crowded};
+ghost use Rattle.lobby_guests.specs.Guests.{has_later, is_crowded};
 ghost use Rattle.either.specs.Either.{either};
 ghost use Rattle.lobby_loop.specs.Turning.{BeginsHall, Comer, AreAdmitted, IsReached, IsLobbyTurn, has_more, texts_put};
 ghost use Rattle.lobby_loop.specs.Turning.{unknown, short_after, left_at, held_after};
@@ -403,6 +403,7 @@ impl Lobby {
         ensures held { OnOk result (self.new.held_until
             ≡ held_after self.old.held_until (is_crowded self.old.hall.guests.items) at) }
         ensures more { IfOk result (λ turned. has_more self.new.hall ≡ true → turned ≡ Worked) }
+        ensures brief { IfOk result (λ turned. has_later self.new.hall.rounds.asks.brief ≡ true → turned ≡ Worked) }
     {
         self.hold(at);
         let has_reached = self.reach_server(net, at)?;

@@ -33,8 +33,8 @@ loop-guest-preserved g c =
     (room_of c.loop-guest.talk c.loop-guest.asks) (room_of c.attend_player.new.talk c.attend_player.new.asks) lt
     c.loop-guest.invariant c.in_ok-any.ensures
 
-pub returns : goal.returns
-returns g c =
+pub returns-clause-turned : goal.returns-clause-turned
+returns-clause-turned g c =
     let guests = c.args.guests.now in
     let items = c.loop-guest.guest-items in
     let so_far = c.loop-guest.invariant in
@@ -49,6 +49,6 @@ returns g c =
       subst (λ (l : List (Guest g.row.S.Denot)). InTurn does guests.items l begun last) (sym same)
           (turned_all does c.loop-guest.guest-index guests.items items begun last
           (omega (arith, c.loop-guest-test.false, c.loop-guest.auto.guest-items)) so_far),
-      ap (λ (r : Round). record last { brief = r; long = c.end-can_long.new.self }) c.end-can_brief.ensures
-          ∙ ap (λ (r : Round). record last { brief = over asks.brief; long = r }) c.end-can_long.ensures,
+      ap (λ (r : Round). record last { brief = r; long = c.end-can_long.new.self }) c.end-can_brief.ensures.over
+          ∙ ap (λ (r : Round). record last { brief = over asks.brief; long = r }) c.end-can_long.ensures.over,
     )

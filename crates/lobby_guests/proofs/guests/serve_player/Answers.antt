@@ -64,11 +64,12 @@ returns g c =
           asker = rounds.asker ∙ ap (λ (a : Asks). a.asker) same;
         }),
       )
-      | inr one ↦ elim one [
+      | inr (may, one) ↦ elim one [
         | inl (little, turn, is) ↦ inl (
           paced,
           inr (inl (record {
             little = little;
+            may = may;
             heard = heard;
             turn = turn;
             brief = rounds.brief ∙ ap (λ (a : Asks). a.brief) is;
@@ -80,6 +81,7 @@ returns g c =
           paced,
           inr (inr (record {
             much = much;
+            may = may;
             heard = heard;
             turn = turn;
             brief = rounds.brief ∙ ap (λ (a : Asks). a.brief) is;
