@@ -3,6 +3,7 @@ use Rattle.std.specs.Prelude.{ℕ, ◌≡◌, ◌≢◌, ◌<◌, ◌⊎◌, Boo
 use Rattle.std.specs.List.{AllZip, AllByRecursion}
 use Rattle.text_lines.specs.Lines.{HasNoFeed}
 use Rattle.lobby_words.specs.declared.players.Player.{Player}
+use Rattle.lobby_players.specs.Halts.{Halted}
 use Rattle.lobby_players.specs.declared.halts.Finding.{Finding}
 use Rattle.lobby_desk.specs.Events.{DeskInput, Heard, ServerTurned, Renewed, Found, MessageValue, message_values}
 use Rattle.lobby_desk.specs.Lines.{bytes_of}
@@ -103,13 +104,13 @@ Happens remaining contents (Relisted players) old new = Renews players old new
 Happens remaining contents (Learned finding) old new = Finds finding old new
 Happens remaining contents (Turned turn) old new = TurnsBy remaining contents turn old new
 
--- a hall that begins with these players, with entries paused or not, and what happened to it, the newest first
-abbrev pub IsLife : {S : Type 0} → (S → Option (List ℕ)) → (S → Option (List ℕ)) → List Player → Bool
+-- a hall that begins with these players, with this halted and announced, and what happened to it, the newest first
+abbrev pub IsLife : {S : Type 0} → (S → Option (List ℕ)) → (S → Option (List ℕ)) → List Player → Halted
     → List (Happening S)
     → Hall S → Type 0
-IsLife remaining contents players is_paused [] now = (site : Site) × BeginsHall site players is_paused now
-IsLife {S} remaining contents players is_paused (h ∷ past) now =
-    (before : Hall S) × IsLife remaining contents players is_paused past before
+IsLife remaining contents players at_first [] now = (site : Site) × BeginsHall site players at_first now
+IsLife {S} remaining contents players at_first (h ∷ past) now =
+    (before : Hall S) × IsLife remaining contents players at_first past before
     × Happens remaining contents h before now
 
 -- what was written to the server's connection, once it is lost or not
@@ -131,23 +132,26 @@ taken_in (ServerCame stream ∷ past) = []
 taken_in (Turned turn ∷ past) = taken_in past ++ turn.taken
 taken_in (_ ∷ past) = taken_in past
 
--- that the server is there, and that its connection is lost, the newest first
-abbrev pub lost_if : Bool → List Bool → List Bool
-lost_if true before = false ∷ before
+-- that the server is there, that its connection is lost, that the players are others, and what is found that halts
+-- games, the newest first
+abbrev pub lost_if : Bool → List DeskInput → List DeskInput
+lost_if true before = ServerTurned false ∷ before
 lost_if false before = before
 
-abbrev pub presences_in : {S : Type 0} → List (Happening S) → List Bool
-presences_in [] = []
-presences_in (ServerCame stream ∷ past) = true ∷ presences_in past
-presences_in (Turned turn ∷ past) = lost_if turn.is_gone (presences_in past)
-presences_in (_ ∷ past) = presences_in past
-
--- that the players are others, and what is found that halts games, the newest first
 abbrev pub notices_in : {S : Type 0} → List (Happening S) → List DeskInput
 notices_in [] = []
+notices_in (ServerCame stream ∷ past) = ServerTurned true ∷ notices_in past
+notices_in (Turned turn ∷ past) = lost_if turn.is_gone (notices_in past)
 notices_in (Relisted players ∷ past) = Renewed players ∷ notices_in past
 notices_in (Learned finding ∷ past) = Found finding ∷ notices_in past
 notices_in (_ ∷ past) = notices_in past
+
+-- of these those of players and of what halts games
+abbrev pub learned_in : {S : Type 0} → List (Happening S) → List DeskInput
+learned_in [] = []
+learned_in (Relisted players ∷ past) = Renewed players ∷ learned_in past
+learned_in (Learned finding ∷ past) = Found finding ∷ learned_in past
+learned_in (_ ∷ past) = learned_in past
 
 -- all texts that the log has, in their order
 abbrev pub put_in : {S : Type 0} → List (Happening S) → List (List ℕ)
@@ -179,17 +183,9 @@ abbrev pub lines_heard : List Step → List (List ℕ)
 lines_heard [] = []
 lines_heard (s ∷ past) = line_more s.event (lines_heard past)
 
--- what the desk was told of whether the server is there, the newest first
-abbrev pub presence_more : DeskInput → List Bool → List Bool
-presence_more (ServerTurned is_here) before = is_here ∷ before
-presence_more _ before = before
-
-abbrev pub presences_told : List Step → List Bool
-presences_told [] = []
-presences_told (s ∷ past) = presence_more s.event (presences_told past)
-
--- what the desk was told of the players and of what halts games, the newest first
+-- what the desk was told of whether the server is there, of the players and of what halts games, the newest first
 abbrev pub notice_more : DeskInput → List DeskInput → List DeskInput
+notice_more (ServerTurned is_here) before = ServerTurned is_here ∷ before
 notice_more (Renewed players) before = Renewed players ∷ before
 notice_more (Found finding) before = Found finding ∷ before
 notice_more _ before = before
@@ -268,18 +264,18 @@ NoLineWaits (Some link) = HoldsNoLine link
 -- every message to a connection is right. What was written to the server since its connection began is a front of
 -- the bytes of these lines, and the rest of them is to go. The lines that the desk heard since then stand in front
 -- of all bytes that came of the server, and where its connection goes on no whole line of it waits; the desk was
--- told that the server is there or gone just where it was, and of other players and of what halts games just what was
--- so, each once and in their order. What the desk told connections went out of its hands, and
+-- told that the server is there or gone, of other players and of what halts games just what was so, each once and in
+-- their order. What the desk told connections went out of its hands, and
 -- the rest of it is to go; of what went out the log has all texts for it, each once and in their order. Of all
 -- browsers that came, those that were let go too, no two have one connection's number, and the desk was told of no
 -- connection but theirs; the desk has, under its number, all that a browser said, and of what went out all that is
 -- for its number was told it or waits for it behind that, which only an answer to `line G` does that was not there
 -- yet and what came behind it. Its requests have the answers of the sites that were served.
 pub record IsRightLife {S : Type 0} (remaining contents : S → Option (List ℕ)) (players : List Player)
-    (is_paused : Bool)
+    (at_first : Halted)
     (past : List (Happening S)) (now : Hall S) : Type 0 where
   pub steps : List Step
-  pub run : IsRun players is_paused steps (view now.talk.desk)
+  pub run : IsRun players at_first steps (view now.talk.desk)
   pub lines : AllRight players steps
   pub tells : AllTold players steps
   pub sent : sent_in steps ≡ written_in past ++ now.talk.wire.items
@@ -288,7 +284,6 @@ pub record IsRightLife {S : Type 0} (remaining contents : S → Option (List ℕ
   pub feeds : AllByRecursion HasNoFeed (lines_heard steps)
   pub held : IsHeld now.server rest
   pub whole : NoLineWaits now.server
-  pub presences : presences_told steps ≡ presences_in past
   pub notices : notices_told steps ≡ notices_in past
   pub out : List MessageValue
   pub told : all_tells steps ≡ out ++ message_values now.talk.told.items
@@ -311,18 +306,25 @@ pub data Passing : Type 0 where
   Rested : Passing
 
 -- a lobby that begins so, and what passed, the newest first
-abbrev pub IsLobbyLife : {S : Type 0} → (S → Option (List ℕ)) → (S → Option (List ℕ)) → List Player → Bool
+abbrev pub IsLobbyLife : {S : Type 0} → (S → Option (List ℕ)) → (S → Option (List ℕ)) → List Player → Halted
     → List Passing → Hall S
     → Type 0
-IsLobbyLife remaining contents players is_paused [] now = (site : Site) × BeginsHall site players is_paused now
-IsLobbyLife {S} remaining contents players is_paused (TurnAt at ∷ past) now =
-    (before : Hall S) × IsLobbyLife remaining contents players is_paused past before
+IsLobbyLife remaining contents players at_first [] now = (site : Site) × BeginsHall site players at_first now
+IsLobbyLife {S} remaining contents players at_first (TurnAt at ∷ past) now =
+    (before : Hall S) × IsLobbyLife remaining contents players at_first past before
     × IsLobbyTurn remaining contents at before now
-IsLobbyLife {S} remaining contents players is_paused (Rested ∷ past) now =
-    (before : Hall S) × IsLobbyLife remaining contents players is_paused past before × IsWoken before now
-IsLobbyLife {S} remaining contents players is_paused (Changed path file ∷ past) now =
-    (before : Hall S) × IsLobbyLife remaining contents players is_paused past before × Files path file before now
-IsLobbyLife {S} remaining contents players is_paused (Enrolled later ∷ past) now =
-    (before : Hall S) × IsLobbyLife remaining contents players is_paused past before × Renews later before now
-IsLobbyLife {S} remaining contents players is_paused (Noticed finding ∷ past) now =
-    (before : Hall S) × IsLobbyLife remaining contents players is_paused past before × Finds finding before now
+IsLobbyLife {S} remaining contents players at_first (Rested ∷ past) now =
+    (before : Hall S) × IsLobbyLife remaining contents players at_first past before × IsWoken before now
+IsLobbyLife {S} remaining contents players at_first (Changed path file ∷ past) now =
+    (before : Hall S) × IsLobbyLife remaining contents players at_first past before × Files path file before now
+IsLobbyLife {S} remaining contents players at_first (Enrolled later ∷ past) now =
+    (before : Hall S) × IsLobbyLife remaining contents players at_first past before × Renews later before now
+IsLobbyLife {S} remaining contents players at_first (Noticed finding ∷ past) now =
+    (before : Hall S) × IsLobbyLife remaining contents players at_first past before × Finds finding before now
+
+-- that the players are others, and what is found that halts games, the newest first
+abbrev pub noticed_in : List Passing → List DeskInput
+noticed_in [] = []
+noticed_in (Enrolled players ∷ passed) = Renewed players ∷ noticed_in passed
+noticed_in (Noticed finding ∷ passed) = Found finding ∷ noticed_in passed
+noticed_in (_ ∷ passed) = noticed_in passed
