@@ -13,7 +13,7 @@ import { Links } from './links.js';
 import { arrange, byId, focused, make, save, setText } from './make.js';
 import { Openings } from './openings.js';
 import { Pairing } from './pairing.js';
-import { folded, plain } from './plain.js';
+import { folded, plain, toldWords, untold } from './plain.js';
 import { Question } from './question.js';
 import { resultText } from './round.js';
 import { stopped } from './stopped.js';
@@ -76,10 +76,9 @@ export class ArbiterView {
     addEventListener('clocks', () => this.renderClocks());
     byId('announcing').addEventListener('submit', (event) => {
       event.preventDefault();
-      const field = byId('announcement');
-      this.tellAll(`announce ${plain(field.value.trim()).slice(0, MOST_ANNOUNCED)}`, field);
+      this.tellAll('announce', byId('announcement'));
     });
-    byId('unannounce').addEventListener('click', () => this.tellAll('announce', byId('announcement')));
+    byId('unannounce').addEventListener('click', () => this.tellAll('announce', byId('announcement'), ''));
     addEventListener('announced', () => this.renderAnnounced());
     for (const id of ['pair-by-hand', 'open-a-round', 'players-and-links']) {
       byId(id).addEventListener('toggle', (event) => event.target.open && this.app.askPlayers());
@@ -186,10 +185,14 @@ export class ArbiterView {
   }
 
   mayMove(endedAt) {
-    const now = performance.now(), stood = now - endedAt;
+    const stood = performance.now() - endedAt;
     if (document.querySelector('dialog[open]')) return false;
-    return stood > STAYS_AT_MOST
-      || now - this.touchedAt > UNTOUCHED && stood > (this.lacksPlace ? STAYS_BEFORE_OTHERS : STAYS);
+    return stood > STAYS_AT_MOST || !this.isTouched() && stood > (this.lacksPlace ? STAYS_BEFORE_OTHERS : STAYS);
+  }
+
+  /** Whether a hand was at the boards a moment ago. */
+  isTouched() {
+    return performance.now() - this.touchedAt <= UNTOUCHED;
   }
 
   /** Whether the desk is told of a game. */
@@ -655,16 +658,25 @@ export class ArbiterView {
 
   /** Stops all clocks, for the reason that is written, if any, or has them run again. */
   clocks() {
-    const field = byId('stop-reason');
-    this.tellAll(stopped ? 'start clocks' : `stop clocks ${plain(field.value.trim() || t`please wait`)}`, field);
+    const field = byId('stop-reason'), why = field.value.trim() || plain(t`please wait`);
+    if (stopped) this.tellAll('start clocks', field, '');
+    else this.tellAll('stop clocks', field, why);
   }
 
-  /** Says to the lobby what it tells every page; the field of it is empty then. */
-  async tellAll(line, field) {
+  /** Says to the lobby what it tells every page, as it stands in the field, which is empty then. Of what is beyond ASCII it
+   * is told how it reads without, or that it cannot be sent. */
+  async tellAll(word, field, text = field.value.trim()) {
+    if (untold(text)) {
+      this.note(toldWords(text), 'refused');
+      return;
+    }
+    const line = `${word} ${plain(text).slice(0, MOST_ANNOUNCED)}`.trim();
     const [answer] = await this.app.wire.say(line), refusal = readRefusal(answer);
-    if (answer.startsWith('ok ')) field.value = '';
     const lost = t`The connection broke before the answer came. Do it again.`;
-    this.note(answer.startsWith('ok ') ? '' : refusal ? refusalWords(refusal) : lost, 'refused');
+    if (answer.startsWith('ok ')) {
+      field.value = '';
+      this.note(toldWords(text));
+    } else this.note(refusal ? refusalWords(refusal) : lost, 'refused');
   }
 
   renderClocks() {

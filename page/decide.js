@@ -6,7 +6,7 @@ import { t } from './language.js';
 import { AS_PLAYED, readRefusal, readShow } from './lines.js';
 import { byId, setText } from './make.js';
 import { mayMate } from './material.js';
-import { plain } from './plain.js';
+import { plain, toldWords, untold } from './plain.js';
 import {
   AGREED, OTHER, colourWord, kindWords, lawWords, refusalWords, resultWords, whyWords, withReason,
 } from './words.js';
@@ -169,7 +169,7 @@ export class Decision {
   /** What is said to the lobby: `decide ROUND BOARD RESULT ARTICLE REASON`; empty where something is not filled in. */
   line() {
     const { round, board, result, article, reason } = this.form.elements, why = plain(reason.value.trim());
-    if (!this.form.checkValidity() || !why) return '';
+    if (!this.form.checkValidity() || !why || untold(article.value + reason.value)) return '';
     const words = [round.value, board.value, result.value, plain(article.value).replaceAll(' ', '') || '-', why];
     return `decide ${words.join(' ')}`.slice(0, LONGEST);
   }
@@ -181,7 +181,9 @@ export class Decision {
 
   render() {
     setText(byId('decide-it'), this.ends() ? t`Decide it, and end the game` : t`Decide it`);
-    setText(byId('decide-told'), this.line() ? '' : t`Fill in the board, the result and the reason.`);
+    const { article, reason } = this.form.elements, lost = untold(article.value + reason.value);
+    setText(byId('decide-told'), lost ? toldWords(lost) : this.line() ? toldWords(reason.value.trim())
+      : t`Fill in the board, the result and the reason.`);
     setText(byId('decide-board'), this.otherWords() || (this.isKnown ? '' : t`This page does not know which board of which
       round it is: look at the pairings.`));
   }

@@ -8,6 +8,7 @@ import { language, t } from './language.js';
 import { placementOf, readLine, readPgn, readRefusal, readStanding, readTimes, sideOf, squaresOf } from './lines.js';
 import { byId, copy, focused, make, save, say, setText } from './make.js';
 import { Room } from './room.js';
+import { isSame } from './rules.js';
 import { drawActions, drawFacts, drawMoves, drawOutcome, drawPlayers } from './sheet.js';
 import { asksFirst } from './settings.js';
 import { sound } from './sound.js';
@@ -610,9 +611,16 @@ export class GameView {
       make('option', { value: '' }, t`none: for the position on the board`),
       ...[...groups].map(([man, moves]) => make('optgroup', { label: man }, ...moves.map((move) => make('option',
         { value: move }, `${man} – ${move.slice(2, 4)}${move[4] ? t`, becomes a ${kindWord(move[4])}` : ''}`)))));
+    setText(byId('claim-stood'), this.stoodWords() || t`The position on the board stands for the first time.`);
     setText(byId('claim-clock'), this.standing.fen.split(' ')[4]);
     dialog.returnValue = '';
     dialog.showModal();
+  }
+
+  /** How often the position on the board has stood, where that is more than once. */
+  stoodWords() {
+    const now = this.line[this.last()], count = now ? this.line.filter(({ fen }) => isSame(fen, now.fen)).length : 0;
+    return count > 1 ? t`The position on the board has stood ${count} times.` : '';
   }
 
   claim() {

@@ -5,6 +5,7 @@ import { t } from './language.js';
 import { readPgn, readRefusal, readRows, readTimes, timesOfOpen } from './lines.js';
 import { byId, copy, make, setText } from './make.js';
 import { isOf } from './pairing.js';
+import { folded } from './plain.js';
 import { arbiterWords, timesWords } from './words.js';
 
 const HEADER = 'board,white,black,times,start', FIELDS = 5;
@@ -40,10 +41,15 @@ export class Openings {
 
   // ---- reading
 
+  /** Of pairings by full names the field has the short ones then, as the round's file wants them. */
   take(text) {
-    const { boards, wrong } = readPairings(text, (name) => this.app.players.has(name));
+    const { boards, rows, wrong } = readPairings(text, this.app.players);
     this.boards = wrong ? [] : boards;
     this.note(wrong);
+    if (!wrong && boards.some(({ row }, place) => row !== rows[place].join())) {
+      byId('boards-form').elements.csv.value = [HEADER, ...boards.map(({ row }) => row)].join('\n');
+      this.note(t`The full names stand above as short ones now, as chess-club start takes them.`, 'news');
+    }
     this.render();
   }
 
@@ -178,35 +184,47 @@ function readCsv(text) {
   return rows.filter((row) => row.length > 1 || row[0]);
 }
 
-/** The boards of a round: {board, white, black, line, start}, `line` having the times as `open` has them, `black` being
- * empty where White has no opponent, `start` in milliseconds; or what is wrong with the first row that is. */
-function readPairings(text, isPlayer) {
-  const rows = readCsv(text.replace(/^\ufeff/, '')) || [[]], boards = [], seen = new Set();
-  if (!rows.length || rows[0].join() !== HEADER) return { boards, wrong: t`The first line has to be ${HEADER}` };
-  for (const [place, row] of rows.slice(1).entries()) {
-    const board = boardOf(row), names = board.black ? [board.white, board.black] : [board.white];
-    const wrong = wrongWith(row, board, names.find((name) => !isPlayer(name)),
+/** The boards of a round: {board, white, black, line, start, row}, `line` having the times as `open` has them, `black`
+ * being empty where White has no opponent, `start` in milliseconds, `row` with the short names; or what is wrong with the
+ * first row that is. `rows` are those of the text, without the first. */
+function readPairings(text, players) {
+  const [head, ...rows] = readCsv(text.replace(/^\ufeff/, '')) || [], boards = [], seen = new Set();
+  if (!head || head.join() !== HEADER) return { boards, rows, wrong: t`The first line has to be ${HEADER}` };
+  for (const [place, row] of rows.entries()) {
+    const seats = (row[2] ? row.slice(1, 3) : row.slice(1, 2)).map((said) => ({ said, meant: meant(said, players) }));
+    const names = seats.map((seat) => seat.meant[0]), board = boardOf(row, ...names);
+    const wrong = wrongWith(row, board, seats.find((seat) => seat.meant.length !== 1),
       [row[0], ...names].find((one, at, all) => seen.has(one) || all.indexOf(one) < at));
-    if (wrong) return { boards, wrong: t`Row ${place + 2}: ${wrong}.` };
+    if (wrong) return { boards, rows, wrong: t`Row ${place + 2}: ${wrong}.` };
     [row[0], ...names].forEach((one) => seen.add(one));
     boards.push(board);
   }
-  return { boards, wrong: boards.length ? '' : t`There is no board in it.` };
+  return { boards, rows, wrong: boards.length ? '' : t`There is no board in it.` };
 }
 
-function boardOf(row) {
-  const [board, white, black, times, begins] = row;
+/** The names of whom a field may mean: of who has it as name, else of all who have it as full name, as `Ann Lee` or
+ * `Lee, Ann`. */
+function meant(said, players) {
+  const spelled = (name) => folded(name.replace(/^([^,]*),(.*)$/, '$2 $1')).replace(/\s+/g, ' ');
+  return players.has(said) ? [said]
+    : [...players].filter(([, { full }]) => spelled(full) === spelled(said)).map(([name]) => name);
+}
+
+function boardOf(row, white, black = '') {
+  const [board, , , times, begins] = row, short = [board, white, black, times, begins].join();
   const { initial, increment, moves, second } = readTimes(times || '') || { initial: NaN };
   const line = moves ? `${moves}/${initial}:${second} ${increment}` : `${initial} ${increment}`;
-  return { board, white, black, line, start: begins ? Date.parse(begins) : 0, game: 0, said: '' };
+  return { board, white, black, line, start: begins ? Date.parse(begins) : 0, game: 0, said: '', row: short };
 }
 
-/** What is wrong with a row, which has a name of no player, or a field twice, where these are given; else ''. */
-function wrongWith(row, { line, start }, stranger, twice) {
+/** What is wrong with a row, of which a seat is not one player's, or a field stands twice, where these are given; else
+ * ''. */
+function wrongWith(row, { line, start }, unclear, twice) {
   const [board, , black, times, begins] = row;
   if (row.length !== FIELDS) return t`it has not five fields`;
   if (!/^[1-9]\d{0,5}$/.test(board)) return t`the board is no number`;
-  if (stranger !== undefined) return t`no player has the name ${stranger}`;
+  if (unclear && !unclear.meant.length) return t`no player has the name ${unclear.said}`;
+  if (unclear) return t`${unclear.said} is the full name of ${unclear.meant.join(', ')}: write which of them it is`;
   if (twice !== undefined) return t`${twice} stands twice`;
   if (Number.isNaN(start) || begins && !ZONE.test(begins)) return t`the start is not as 2026-11-26T19:30Z is`;
   const isBye = !black && !begins, areTimes = timesOfOpen(`open white ${line}`) === times;

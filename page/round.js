@@ -3,12 +3,15 @@
 
 import { t } from './language.js';
 import { AS_PLAYED } from './lines.js';
-import { byId, make, setText } from './make.js';
+import { byId, make, read, setText, write } from './make.js';
 import { SIDES, decidedWords, resultWords, withReason } from './words.js';
 
 const FILE = new URL('round.json', import.meta.url);           // (the screens' pages stand in other folders)
 // In milliseconds: while it is shown or none was told, and for a game's page where one was told.
 const LOOKS_AGAIN = 15000, KNOWS_FOR = 60000;
+const DECIDED = 'decided';           // of this tab: what the lobby has told of decisions
+const DECIDED_FOR = 43200000;        // and for so long, in milliseconds
+const tab = () => sessionStorage;
 const SIGNS = { w: t`White`, b: t`Black` };
 
 const TITLES = {
@@ -23,7 +26,8 @@ export class RoundFile {
     this.looked = looked;
     this.told = null;                  // what the file tells
     this.results = new Map();          // by it: game -> {result, why} of its board, why as far as that was told
-    this.decisions = new Map();        // `ROUND BOARD` -> {result, why, isTold}: what the lobby has told, maybe before it
+    // `ROUND BOARD` -> {result, why, isTold, game, at}: what the lobby has told, maybe before it, and when
+    this.decisions = new Map(keptDecisions());
     this.text = '';                    // the file, as it was told last
     this.state = 'sought';
     this.readAt = -Infinity;
@@ -51,13 +55,29 @@ export class RoundFile {
     Object.assign(this, { told, state, results: new Map() });
     for (const [place, boards] of (told && !isOfTeams(told) ? told.rounds : []).entries()) {
       for (const board of boards) {
-        const decided = this.decisions.get(`${place + 1} ${board.board}`);
-        if (decided && decided.result === board.result) decided.isTold = true;
+        const decided = this.decisionOf(`${place + 1} ${board.board}`, board);
         if (decided && !decided.isTold) Object.assign(board, { result: decided.result, law: undefined });
         const { game, result } = board, why = decided && decided.result === result ? decided.why : '';
         if (game) this.results.set(game, { result, why });
       }
     }
+    this.keepDecisions();
+  }
+
+  /** What the lobby has told of a place whose board the file tells so; nothing where that has another game by now, as
+   * one of another tournament. */
+  decisionOf(place, { result, game }) {
+    const decided = this.decisions.get(place);
+    if (!decided) return undefined;
+    if (decided.game && game && decided.game !== game) {
+      this.decisions.delete(place);
+      return undefined;
+    }
+    return Object.assign(decided, { game: game || decided.game, isTold: decided.isTold || decided.result === result });
+  }
+
+  keepDecisions() {
+    write(tab, DECIDED, this.decisions.size ? JSON.stringify([...this.decisions]) : null);
   }
 
   /** The lobby tells that an arbiter has decided a board: its file does so a while later. What counts as it was played,
@@ -65,8 +85,9 @@ export class RoundFile {
   decides({ round, board, result, why }) {
     const place = `${round} ${board}`;
     if (result === AS_PLAYED) this.decisions.delete(place);
-    else this.decisions.set(place, { result, why, isTold: false });
+    else this.decisions.set(place, { result, why, isTold: false, game: 0, at: Date.now() });
     if (this.told) this.take(JSON.parse(this.text), this.state);
+    else this.keepDecisions();
     this.looked(true);
   }
 
@@ -231,6 +252,12 @@ export class RoundView extends RoundFile {
       return link;
     }));
   }
+}
+
+/** What this tab has kept of decisions, of the last hours. */
+function keptDecisions() {
+  const kept = JSON.parse(read(tab, DECIDED) || '[]');
+  return kept.filter(([, { at }]) => Date.now() - at < DECIDED_FOR);
 }
 
 /** Whether this is told of teams, whose boards are matches. */

@@ -1,7 +1,8 @@
-// How men move, for the board on which a game is looked at again (again.js) and for nothing else: of a game that is
-// played the lobby tells the legal moves. There it tells them too, but to who has signed in alone; and a PGN is read, and
-// a move written, by the moves of many positions at once. A position is {men, side, rights, passing, half, full}, with
-// `men` from squares to the letters of a FEN; a move is its two squares, and the letter of what a pawn becomes.
+// How men move, for the board on which a game is looked at again (again.js). Of a game that is played the lobby tells the
+// legal moves, and here is asked no more than whether two positions are the same. There it tells them too, but to who has
+// signed in alone; and a PGN is read, and a move written, by the moves of many positions at once. A position is {men, side,
+// rights, passing, half, full}, with `men` from squares to the letters of a FEN; a move is its two squares, and the letter
+// of what a pawn becomes.
 
 import { placementOf } from './lines.js';
 
@@ -52,6 +53,22 @@ export function fenOf({ men, side, rights, passing, half, full }) {
   const rows = [8, 7, 6, 5, 4, 3, 2, 1].map((rank) => [...FILES].map((file) => men.get(file + rank) || '1').join('')
     .replace(/1+/g, (gap) => String(gap.length)));
   return `${rows.join('/')} ${side} ${rights || '-'} ${passing || '-'} ${half} ${full}`;
+}
+
+/** Whether the positions of two FENs are the same for a draw (9.2): by their men, who is to move, the rights to castle,
+ * and what may be taken en passant. */
+export function isSame(fen, other) {
+  const [one, two] = [fen, other].map((text) => text.split(' ').slice(0, 3).join(' '));
+  return one === two && passingOf(fen) === passingOf(other);
+}
+
+/** Of a FEN's position the square on which a pawn may be taken en passant; '' where none may. */
+function passingOf(fen) {
+  const position = readFen(fen);
+  if (!position || !position.passing) return '';
+  const { men, passing } = position, isPawn = (square) => men.get(square).toLowerCase() === 'p';
+  const isTaking = (move) => move.slice(2, 4) === passing && isPawn(move.slice(0, 2));
+  return legalMoves(position).some(isTaking) ? passing : '';
 }
 
 /** Whether a side's men attack a square. */

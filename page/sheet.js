@@ -10,6 +10,9 @@ import {
   withReason,
 } from './words.js';
 
+/** What the button says by itself. */
+const CLAIM = byId('claim').title;
+
 export function drawPlayers(game) {
   const standing = game.standing, times = readTimes(game.tags.TimeControl || ''), result = game.counted();
   const isUncounted = game.isUncounted();
@@ -108,6 +111,7 @@ export function drawActions(game) {
   setText(byId('proposed-words'), game.proposed ? t`Play ${moveWords(game)}?` : '');
   show('play-it', game.proposed);
   show('claim', runs && seat, game.myTurn());
+  byId('claim').title = runs && seat ? `${game.stoodWords()} ${CLAIM}`.trim() : CLAIM;
   show('resign', runs && seat);
   show('copy-invitation', !game.started() && seat);
   show('join', !game.started() && !seat && me && !game.room.absent());

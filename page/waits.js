@@ -11,8 +11,8 @@ const ANEW = 10000;                  // and the same game every ten seconds at m
 const MOST_SHOWN = 50;
 
 export class Waits {
-  /** desk: {app, root, absences, running(), has(number), showGame(number)}; running() gives all rows of running games,
-   * has(number) whether the desk is told of a game. */
+  /** desk: {app, root, list, absences, running(), has(number), showGame(number), isTouched()}; running() gives all rows of
+   * running games, has(number) whether the desk is told of a game, isTouched() whether a hand is at its boards. */
   constructor(desk) {
     this.desk = desk;
     this.seen = new Map();             // number -> {standing, at, askedAt}
@@ -125,13 +125,23 @@ export class Waits {
       if (!keys.includes(key)) this.items.delete(key);
     }
     found.forEach((one, place) => this.items.has(keys[place]) || this.items.set(keys[place], this.item(one)));
-    byId('arbiter-waits').classList.toggle('nothing', found.length === 0);
+    this.shrink(found.length === 0);
     arrange(byId('waits-list'), keys.slice(0, MOST_SHOWN).map((key) => this.items.get(key)));
     setText(byId('waits-count'), String(found.length));
     setText(byId('waits-more'), found.length > MOST_SHOWN ? t`${MOST_SHOWN} of ${found.length} are shown.` : '');
     if (!had.isConnected) (byId('waits-list').querySelector('button') || byId('arbiter-title')).focus();
     this.desk.app.titled(found.length === 0 ? t`Arbiter` : found.length === 1 ? t`Arbiter: 1 waits`
       : t`Arbiter: ${found.length} wait`);
+  }
+
+  /** Where nothing waits there is the heading alone. What stands below stays where it is on the screen, under a hand and
+   * where the page was scrolled. */
+  shrink(isNothing) {
+    const { classList } = byId('arbiter-waits'), { desk } = this, top = () => desk.list.getBoundingClientRect().top;
+    if (classList.contains('nothing') === isNothing) return;
+    const stood = top(), stays = desk.isTouched() || scrollY > 0;
+    classList.toggle('nothing', isNothing);
+    if (stays) scrollBy(0, top() - stood);
   }
 
   /** What is new is said once. */

@@ -763,10 +763,10 @@ export const WORDS = {
   'Delete from here': 'Ab hier löschen',
   'Put another game here': 'Eine andere Partie hierher',
   'Start anew': 'Neu beginnen',
-  ['Both players are told that it is adjourned. In the record this game stays a draw. The game that goes on '
-    + 'with it later is the board’s.']:
-    'Beiden Spielern wird gesagt, dass sie vertagt ist. In der Aufzeichnung bleibt diese Partie remis. Für das '
-    + 'Brett zählt die Partie, die sie später fortsetzt.',
+  ['Both players are told that it is adjourned. In the record this game stays a draw, and standings count it so '
+    + 'until the game that goes on with it is the board’s.']:
+    'Beiden Spielern wird gesagt, dass sie vertagt ist. In der Aufzeichnung bleibt diese Partie remis, und so '
+    + 'zählt die Tabelle sie, bis für das Brett die Partie gilt, die sie fortsetzt.',
   'The sheet of links': 'Das Blatt mit den Links',
   'Print': 'Drucken',
   'FEN or PGN': 'FEN oder PGN',
@@ -1012,4 +1012,13 @@ export const WORDS = {
   'The disk has no room for the lobby’s log: no new game begins until it has. Games that were begun go on.':
     'Auf der Platte ist kein Platz für das Protokoll der Lobby: bis wieder welcher da ist, beginnt keine neue '
     + 'Partie. Begonnene gehen weiter.',
+  'The position on the board stands for the first time.': 'Die Stellung auf dem Brett steht zum ersten Mal da.',
+  'The position on the board has stood {0} times.': 'Die Stellung auf dem Brett stand schon {0}-mal da.',
+  'The full names stand above as short ones now, as chess-club start takes them.':
+    'Die vollen Namen stehen oben jetzt als kurze, wie chess-club start sie nimmt.',
+  '{0} is the full name of {1}: write which of them it is':
+    '{0} ist der volle Name von {1}: schreibe, wer davon gemeint ist',
+  'These signs cannot be sent: {0}. Write it without them.':
+    'Diese Zeichen lassen sich nicht senden: {0}. Schreibe es ohne sie.',
+  'It is told so: {0}': 'So wird es gesagt: {0}',
 };

@@ -757,10 +757,10 @@ export const WORDS = {
   'Delete from here': 'Borrar desde aquí',
   'Put another game here': 'Poner otra partida',
   'Start anew': 'Empezar de nuevo',
-  ['Both players are told that it is adjourned. In the record this game stays a draw. The game that goes on '
-    + 'with it later is the board’s.']:
-    'A ambos jugadores se les dice que se aplaza. En el registro esta partida queda en tablas. Para el tablero '
-    + 'cuenta la partida que la reanude después.',
+  ['Both players are told that it is adjourned. In the record this game stays a draw, and standings count it so '
+    + 'until the game that goes on with it is the board’s.']:
+    'A ambos jugadores se les dice que se aplaza. En el registro esta partida queda en tablas, y la clasificación'
+    + ' la cuenta así hasta que valga para el tablero la partida que la reanude.',
   'The sheet of links': 'La hoja de enlaces',
   'Print': 'Imprimir',
   'FEN or PGN': 'FEN o PGN',
@@ -1003,4 +1003,13 @@ export const WORDS = {
   'The disk has no room for the lobby’s log: no new game begins until it has. Games that were begun go on.':
     'No hay sitio en el disco para el registro del lobby: hasta que lo haya no empieza ninguna partida nueva. Las '
     + 'comenzadas siguen.',
+  'The position on the board stands for the first time.': 'La posición del tablero se da por primera vez.',
+  'The position on the board has stood {0} times.': 'La posición del tablero se ha dado {0} veces.',
+  'The full names stand above as short ones now, as chess-club start takes them.':
+    'Los nombres completos están ahora arriba como nombres cortos, como los toma chess-club start.',
+  '{0} is the full name of {1}: write which of them it is':
+    '{0} es el nombre completo de {1}: escribe cuál de ellos es',
+  'These signs cannot be sent: {0}. Write it without them.':
+    'Estos signos no se pueden enviar: {0}. Escríbelo sin ellos.',
+  'It is told so: {0}': 'Se dice así: {0}',
 };

@@ -768,10 +768,10 @@ export const WORDS = {
   'Delete from here': 'Effacer à partir d’ici',
   'Put another game here': 'Mettre une autre partie',
   'Start anew': 'Recommencer',
-  ['Both players are told that it is adjourned. In the record this game stays a draw. The game that goes on '
-    + 'with it later is the board’s.']:
-    'Les deux joueurs apprennent qu’elle est ajournée. Dans l’enregistrement, cette partie reste nulle. C’est la '
-    + 'partie qui la reprendra plus tard qui compte pour l’échiquier.',
+  ['Both players are told that it is adjourned. In the record this game stays a draw, and standings count it so '
+    + 'until the game that goes on with it is the board’s.']:
+    'Les deux joueurs apprennent qu’elle est ajournée. Dans l’enregistrement, cette partie reste nulle, et le '
+    + 'classement la compte ainsi jusqu’à ce que la partie qui la reprend soit celle de l’échiquier.',
   'The sheet of links': 'La feuille des liens',
   'Print': 'Imprimer',
   'FEN or PGN': 'FEN ou PGN',
@@ -1020,4 +1020,12 @@ export const WORDS = {
   'The disk has no room for the lobby’s log: no new game begins until it has. Games that were begun go on.':
     'Le disque n’a pas de place pour le journal du lobby : aucune nouvelle partie ne commence d’ici là. Celles qui '
     + 'ont commencé continuent.',
+  'The position on the board stands for the first time.': 'La position sur l’échiquier apparaît pour la première fois.',
+  'The position on the board has stood {0} times.': 'La position sur l’échiquier est apparue {0} fois.',
+  'The full names stand above as short ones now, as chess-club start takes them.':
+    'Les noms complets sont maintenant remplacés ci-dessus par les noms courts, tels que chess-club start les prend.',
+  '{0} is the full name of {1}: write which of them it is': '{0} est le nom complet de {1} : écrivez duquel il s’agit',
+  'These signs cannot be sent: {0}. Write it without them.':
+    'Ces signes ne peuvent pas être envoyés : {0}. Écrivez sans eux.',
+  'It is told so: {0}': 'C’est annoncé ainsi : {0}',
 };

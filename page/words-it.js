@@ -761,10 +761,10 @@ export const WORDS = {
   'Delete from here': 'Cancella da qui',
   'Put another game here': 'Metti un’altra partita',
   'Start anew': 'Ricomincia',
-  ['Both players are told that it is adjourned. In the record this game stays a draw. The game that goes on '
-    + 'with it later is the board’s.']:
-    'A entrambi i giocatori si dice che è aggiornata. Nel registro questa partita resta patta. Per la scacchiera '
-    + 'vale la partita che poi la riprende.',
+  ['Both players are told that it is adjourned. In the record this game stays a draw, and standings count it so '
+    + 'until the game that goes on with it is the board’s.']:
+    'A entrambi i giocatori si dice che è aggiornata. Nel registro questa partita resta patta, e la classifica la'
+    + ' conta così finché per la scacchiera non vale la partita che la riprende.',
   'The sheet of links': 'Il foglio dei link',
   'Print': 'Stampa',
   'FEN or PGN': 'FEN o PGN',
@@ -1009,4 +1009,13 @@ export const WORDS = {
   'The disk has no room for the lobby’s log: no new game begins until it has. Games that were begun go on.':
     'Sul disco non c’è posto per il registro della lobby: finché non ce n’è, non comincia nessuna nuova partita. '
     + 'Quelle cominciate continuano.',
+  'The position on the board stands for the first time.':
+    'La posizione sulla scacchiera si presenta per la prima volta.',
+  'The position on the board has stood {0} times.': 'La posizione sulla scacchiera si è presentata {0} volte.',
+  'The full names stand above as short ones now, as chess-club start takes them.':
+    'I nomi completi stanno ora sopra come nomi brevi, come li prende chess-club start.',
+  '{0} is the full name of {1}: write which of them it is': '{0} è il nome completo di {1}: scrivi quale di loro è',
+  'These signs cannot be sent: {0}. Write it without them.':
+    'Questi segni non si possono inviare: {0}. Scrivi senza di essi.',
+  'It is told so: {0}': 'Viene detto così: {0}',
 };

@@ -763,10 +763,10 @@ export const WORDS = {
   'Delete from here': 'Vanaf hier wissen',
   'Put another game here': 'Een andere partij neerzetten',
   'Start anew': 'Opnieuw beginnen',
-  ['Both players are told that it is adjourned. In the record this game stays a draw. The game that goes on '
-    + 'with it later is the board’s.']:
-    'Beide spelers krijgen te horen dat ze is afgebroken. In de boeken blijft deze partij remise. Voor het bord '
-    + 'telt de vervolgpartij.',
+  ['Both players are told that it is adjourned. In the record this game stays a draw, and standings count it so '
+    + 'until the game that goes on with it is the board’s.']:
+    'Beide spelers krijgen te horen dat ze is afgebroken. In de boeken blijft deze partij remise, en de stand '
+    + 'telt haar zo tot voor het bord de vervolgpartij telt.',
   'The sheet of links': 'Het vel met links',
   'Print': 'Afdrukken',
   'FEN or PGN': 'FEN of PGN',
@@ -1009,4 +1009,12 @@ export const WORDS = {
   'The disk has no room for the lobby’s log: no new game begins until it has. Games that were begun go on.':
     'Er is op de schijf geen ruimte voor het logboek van de lobby: tot die er is, begint er geen nieuwe partij. '
     + 'Begonnen partijen gaan door.',
+  'The position on the board stands for the first time.': 'De stelling op het bord staat er voor de eerste keer.',
+  'The position on the board has stood {0} times.': 'De stelling op het bord heeft er {0} keer gestaan.',
+  'The full names stand above as short ones now, as chess-club start takes them.':
+    'De volledige namen staan hierboven nu als korte namen, zoals chess-club start ze neemt.',
+  '{0} is the full name of {1}: write which of them it is': '{0} is de volledige naam van {1}: schrijf wie het is',
+  'These signs cannot be sent: {0}. Write it without them.':
+    'Deze tekens kunnen niet worden verzonden: {0}. Schrijf het zonder.',
+  'It is told so: {0}': 'Het wordt zo gezegd: {0}',
 };

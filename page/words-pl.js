@@ -754,10 +754,10 @@ export const WORDS = {
   'Delete from here': 'Usuń odtąd',
   'Put another game here': 'Wstaw inną partię',
   'Start anew': 'Zacznij od nowa',
-  ['Both players are told that it is adjourned. In the record this game stays a draw. The game that goes on '
-    + 'with it later is the board’s.']:
-    'Obaj gracze dowiadują się, że jest odłożona. W zapisie ta partia pozostaje remisem. Dla szachownicy liczy '
-    + 'się partia, która ją później wznowi.',
+  ['Both players are told that it is adjourned. In the record this game stays a draw, and standings count it so '
+    + 'until the game that goes on with it is the board’s.']:
+    'Obaj gracze dowiadują się, że jest odłożona. W zapisie ta partia pozostaje remisem i klasyfikacja tak ją liczy, '
+    + 'dopóki dla szachownicy nie liczy się partia, która ją wznawia.',
   'The sheet of links': 'Arkusz z linkami',
   'Print': 'Drukuj',
   'FEN or PGN': 'FEN lub PGN',
@@ -999,4 +999,12 @@ export const WORDS = {
   'The disk has no room for the lobby’s log: no new game begins until it has. Games that were begun go on.':
     'Na dysku nie ma miejsca na dziennik lobby: dopóki go nie będzie, nie zacznie się żadna nowa partia. Rozpoczęte '
     + 'trwają dalej.',
+  'The position on the board stands for the first time.': 'Pozycja na szachownicy powstała po raz pierwszy.',
+  'The position on the board has stood {0} times.': 'Pozycja na szachownicy powstała już {0} {0:raz|razy|razy}.',
+  'The full names stand above as short ones now, as chess-club start takes them.':
+    'Pełne nazwiska stoją teraz powyżej jako krótkie nazwy, jakie przyjmuje chess-club start.',
+  '{0} is the full name of {1}: write which of them it is':
+    '{0} to pełne nazwisko graczy {1}: napisz, który z nich to jest',
+  'These signs cannot be sent: {0}. Write it without them.': 'Tych znaków nie można wysłać: {0}. Napisz to bez nich.',
+  'It is told so: {0}': 'Zostanie to podane tak: {0}',
 };

@@ -752,10 +752,10 @@ export const WORDS = {
   'Delete from here': 'Apagar daqui em diante',
   'Put another game here': 'Pôr outra partida',
   'Start anew': 'Recomeçar',
-  ['Both players are told that it is adjourned. In the record this game stays a draw. The game that goes on '
-    + 'with it later is the board’s.']:
-    'Os dois jogadores ficam sabendo que ela foi adiada. No registro esta partida fica empatada. Para o '
-    + 'tabuleiro vale a partida que depois a retoma.',
+  ['Both players are told that it is adjourned. In the record this game stays a draw, and standings count it so '
+    + 'until the game that goes on with it is the board’s.']:
+    'Os dois jogadores ficam sabendo que ela foi adiada. No registro esta partida fica empatada, e a '
+    + 'classificação a conta assim até que valha para o tabuleiro a partida que a retoma.',
   'The sheet of links': 'A folha de links',
   'Print': 'Imprimir',
   'FEN or PGN': 'FEN ou PGN',
@@ -996,4 +996,12 @@ export const WORDS = {
   'The disk has no room for the lobby’s log: no new game begins until it has. Games that were begun go on.':
     'Não há espaço no disco para o registro do lobby: até haver, nenhuma partida nova começa. As já começadas '
     + 'continuam.',
+  'The position on the board stands for the first time.': 'A posição no tabuleiro acontece pela primeira vez.',
+  'The position on the board has stood {0} times.': 'A posição no tabuleiro já aconteceu {0} vezes.',
+  'The full names stand above as short ones now, as chess-club start takes them.':
+    'Os nomes completos estão agora acima como nomes curtos, como chess-club start os aceita.',
+  '{0} is the full name of {1}: write which of them it is': '{0} é o nome completo de {1}: escreva qual deles é',
+  'These signs cannot be sent: {0}. Write it without them.':
+    'Estes sinais não podem ser enviados: {0}. Escreva sem eles.',
+  'It is told so: {0}': 'Será dito assim: {0}',
 };

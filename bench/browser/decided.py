@@ -76,9 +76,13 @@ def shows_decided(hall, number, ended):
     for side in ('white', 'black'):
         bob.shows('.player.%s .score' % side, '½', 'the score of ' + side)
     well_on_screens(bob, 'a game that was decided')
+    # (no file tells it so far)
+    bob.reload().reads('#outcome', '½–½  Draw by the arbiter’s decision', '6.9, Black cannot mate')
+    sue.reload().shows(on_card(number, '.desk-state'), '½–½ Draw by the arbiter’s decision', 'the card anew')
     bob.reads('#defaulted-words', 'Board 2 of round 2, Bob', '+ –. Who does not come in time loses')
     bob.goes('').click('#hide-defaulted').loses('#defaulted', 'that is hidden')
     bob.reload().finds('#to-round', 'the page anew').lacks('#defaulted', 'and told no more')
+    bob.shows('[data-key="look-%s"] .state' % number, '½–½', 'what was decided is')
 
 
 def a_decision(hall):
@@ -123,6 +127,7 @@ def a_decision(hall):
     decides(hall, 2, 'The arbiter has decided board 1 of round 2, Ann Lee – Bob <b>Stone</b> & Sons: as it was played. Why: '
             '6.9, it was another board', board=1, result='as-played')
     sue.shows(on_card(drawn, '.desk-state'), '0–1 Black wins on time', 'the server’s result counts again')
+    bob.reload().shows('[data-key="look-%s"] .state' % drawn, '0–1', 'in a page anew too')
     here = paired(hall, 'ann', 'cid', '300 0')
     sue.click(on_card(here, '[data-key^=decide-]')).reads('#decide-stands', 'White has not made a move')
     sue.is_so(value(sue, 'result') == '+/-', 'White sits there').click('#decide-leave')
@@ -152,7 +157,11 @@ def a_decision(hall):
     sue.click('#waits-list [data-key="show-%s-late"]' % absent)
     sue.until(lambda: re.search('the clocks have run for [1-9]', sue.text('#decide-stands')), 'the time is the true one')
     sue.is_so(value(sue, 'result') == '+/-', 'White has come').type('#decide-form [name=round]', '1')
-    sue.type('#decide-form [name=board]', '2').type('#decide-form [name=reason]', 'Dee’s train, "late", cost $1')
+    sue.type('#decide-form [name=board]', '2').type('#decide-form [name=reason]', 'Ду')
+    sue.reads('#decide-told', 'These signs cannot be sent: Ду.').forget_sent().click('#decide-it')
+    sue.is_so(sue.sent('decide ') == [], 'nothing is decided then')
+    sue.type('#decide-form [name=reason]', 'Dee’s train, "late", cost $1')
+    sue.shows('#decide-told', 'It is told so: Dee\'s train, "late", cost $1', 'how it reads')
     decides(hall, 1, 'The arbiter has decided board 2 of round 1, Cid Okonkwo – Dee van der Meer: + –. Why: 6.7, Dee\'s '
             'train, "late", cost $1', board=2, result='+/-', article='6.7', reason='Dee\'s train, "late", cost $1')
     sue.loses('.wait.late', 'the game has ended').reads(on_card(absent, '.desk-state'), 'White wins by resignation')
