@@ -1,8 +1,9 @@
 """What players of a league's night do at their boards: games of all ends, as plans for two players who know only what
 the lobby tells them."""
 import random
+import re
 
-from lib.model.known_games import DEAD, MATES, STALEMATE
+from lib.model.known_games import BISHOP_ALONE, DEAD, MATES, STALEMATE
 from lib.model.rules import INITIAL, ending_of_line, following, legal_moves, san
 
 KNIGHTS = 'Nf3 Nf6 Ng1 Ng8'
@@ -14,6 +15,8 @@ WEIGHTS = {
     'wrong claim': 1, 'wrong claim by a move': 1, 'resign': 5, 'resign at once': 1, 'agree': 4, 'flag': 2, 'late': 2,
     'random': 4,
 }
+# Of these kinds who does not come.
+AWAY = {'white away': 'w', 'black away': 'b', 'nobody': 'wb'}
 
 
 def quiet_game(plies, seed):
@@ -56,7 +59,8 @@ class Plan:
 
     def __init__(self, kind, dice, quiet):
         self.kind, self.dice = kind, dice
-        self.times = dice.choice(SHORT_TIMES if kind in ('flag', 'late') else LONG_TIMES)
+        self.times = '60' if kind == 'no mate on time' else dice.choice(
+            SHORT_TIMES if kind in ('flag', 'late') else LONG_TIMES)
         self.who = dice.choice('wb')
         self.declines = dice.choice([0, 0, 1])
         self.texts = self.own_texts(quiet)
@@ -64,10 +68,19 @@ class Plan:
         if kind == 'three by a move':
             self.length -= 1
 
+    @property
+    def initial(self):
+        """The seconds of the first period."""
+        return int(re.fullmatch(r'(?:\d+/)?(\d+).*', self.times)[1])
+
+    @property
+    def increment(self):
+        return int(re.fullmatch(r'[^+]*(?:\+(\d+).*)?', self.times)[1] or 0)
+
     def own_texts(self, quiet):
         known = {'mate': MATES[self.dice.choice(list(MATES))], 'stalemate': STALEMATE, 'dead': DEAD,
                  'three': KNIGHTS + ' ' + KNIGHTS, 'three by a move': KNIGHTS + ' ' + KNIGHTS,
-                 'five': ' '.join([KNIGHTS] * 4)}
+                 'five': ' '.join([KNIGHTS] * 4), 'no mate on time': BISHOP_ALONE, 'no mate resigned': BISHOP_ALONE}
         if self.kind in ('fifty', 'seventy-five'):
             return quiet[:104] if self.kind == 'fifty' else quiet
         return known[self.kind].split() if self.kind in known else None
@@ -77,10 +90,12 @@ class Plan:
             return self.dice.choice([0, 0, 1])
         if self.kind in ('flag', 'late'):
             return self.dice.choice([0, 1, 2, 3, 5])
+        if self.kind in AWAY:
+            return 1
         return self.dice.randrange(2, 100 if self.kind == 'random' else 40)
 
     def has_time(self):
-        return self.times not in SHORT_TIMES
+        return self.times not in (*SHORT_TIMES, '60')
 
     def pause(self, pace):
         """How long a player thinks."""
@@ -123,12 +138,17 @@ class Plan:
     def end(self, view, mine, other, now):
         game, ply, on_move = view.game, view.ply, view.side == mine
         kind = self.kind
+        # (the arbiter ends it)
+        if kind in AWAY or kind == 'adjourned':
+            return None
+        if kind == 'no mate resigned':
+            return f'resign {game}' if on_move else None
         if kind in ('resign', 'resign at once', 'random') or self.texts and ply > self.length + 1:
             return f'resign {game}' if mine == self.who else None
         if kind in ('three', 'three by a move', 'fifty'):
             move = ' ' + self.texts[ply] if kind == 'three by a move' else ''
             return f'claim {game} {ply} {"fifty" if kind == "fifty" else "three"}{move}' if on_move else None
-        if kind in ('flag', 'late'):
+        if kind in ('flag', 'late', 'no mate on time'):
             is_due = now >= view.at + view.clocks[view.side] / 1000 + 0.1
             if kind == 'late':
                 return f'move {game} {ply} {self.text(view)}' if is_due and on_move and view.moves else None

@@ -33,6 +33,10 @@ MATES = {
 }
 # Sam Loyd's stalemate
 STALEMATE = 'e3 a5 Qh5 Ra6 Qxa5 h5 Qxc7 Rah6 h4 f6 Qxd7+ Kf7 Qxb7 Qd3 Qxb8 Qh7 Qxc8 Kg6 Qe6'
+# to a bishop alone, which never mates, against a rook, which is to move; found by taking what can be taken
+BISHOP_ALONE = '''
+    a4 h6 h4 b5 axb5 e5 Rxa7 Qxh4 Rxc7 Qxf2+ Kxf2 Be7 Rxh6 gxh6 Rxd7 Nxd7 b4 Bxb4 Nf3 Bxd2 Bxd2 Ra2 Bxh6 Rxc2 Qxd7+
+    Bxd7 Nxe5 Rxe2+ Bxe2 Rxh6 Nxd7 Kxd7 b6 Rxb6 Bc4 Rxb1 Bxf7 Rg1 Bxg8 Rxg2+ Ke3'''
 # to two bare kings, found by taking what can be taken
 DEAD = '''
     b3 Nc6 e4 b5 Bxb5 Na5 Bxd7+ Kxd7 e5 Nxb3 cxb3 h6 Na3 g5 d3 Rb8 Bxg5 hxg5 Nc4 Rxh2 Rxh2 Rxb3 axb3 a5 Nxa5 Nh6 Rxh6
