@@ -48,7 +48,7 @@ class Lobby(Closing):
 
     def start(self):
         words = [self.program, 'lobby', '--players', self.club, '--server', '127.0.0.1:%d' % self.server_port,
-                 '--port', str(self.port), '--page', PAGE, *self.words]
+                 '--port', str(self.port), *(() if '--page' in self.words else ('--page', PAGE)), *self.words]
         for _ in range(50 if self.port > 80 else 1):
             self.process = subprocess.Popen(words, stdout=subprocess.PIPE, stderr=self.errors, text=True)
             self.address = self.process.stdout.readline().strip()

@@ -296,6 +296,13 @@ async def come(make, port):
     return (await asyncio.get_running_loop().create_connection(make, '127.0.0.1', port))[1]
 
 
+def status_of(port, request):
+    """The status of the answer to this."""
+    with connect(port, 20) as line:
+        line.sendall(request)
+        return line.recv(4096)[9:12].decode()
+
+
 def fetch(port, path, method='GET', more='', timeout=60):
     """The status, the fields in small letters, and the body. More fields are lines that end in CRLF."""
     with connect(port, timeout) as line:

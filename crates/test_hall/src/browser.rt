@@ -1,4 +1,4 @@
-//! A browser that is tried before a site: the same bytes at once, and one by one.
+//! A browser that is tried before a site.
 use crate::frames::check_frames;
 use crate::requests::check_requests;
 use bytes::Bytes;
@@ -21,8 +21,6 @@ pub struct Lab {
     /// `open`, and each text, each with a line feed behind it.
     pub said: Vec<u8>,
     pub written: Vec<u8>,
-    // What was written to the browser before this one.
-    written_before: Vec<u8>,
 }
 
 pub fn file_of(
@@ -63,7 +61,6 @@ impl Lab {
         let browser = Browser::new(self.alloc, self.keys);
         drop(mem::replace(&mut self.browser, browser));
         self.said.clear();
-        mem::swap(&mut self.written, &mut self.written_before);
         self.written.clear();
     }
 
@@ -108,55 +105,19 @@ impl Lab {
         self.give(rt, bytes);
     }
 
-    // Another browser comes, and they come one by one.
-    fn single(&mut self, rt: &impl Abort, bytes: &[u8]) {
-        self.begin();
-        for byte in bytes {
-            self.give(rt, &[*byte]);
-        }
-    }
-
-    /// Whether the browser said this, and what was written to it begins and ends so. Where it said something, or this
-    /// is how nothing begins, nothing stands between.
-    pub fn has(&self, said: &[u8], front: &[u8], end: &[u8], is_over: bool) -> bool {
-        let Some(rest) = self.written.as_slice().strip_prefix(front) else {
-            return false;
-        };
-        let may_have_more = said.is_empty() && !front.is_empty();
-        rest.ends_with(end)
-            && (may_have_more || rest.len() == end.len())
-            && self.said.as_slice() == said
+    /// Whether what was written to the browser begins and ends so; all of it, where it is to begin with nothing.
+    pub fn has(&self, front: &[u8], end: &[u8], is_over: bool) -> bool {
+        let written = self.written.as_slice();
+        written.starts_with(front)
+            && written.ends_with(end)
+            && (!front.is_empty() || written.len() == end.len())
             && self.browser.is_over() == is_over
-    }
-
-    /// What these bytes bring is this, in whatever pieces they come.
-    pub fn check(
-        &mut self,
-        rt: &impl Abort,
-        bytes: &[u8],
-        said: &[u8],
-        front: &[u8],
-        end: &[u8],
-        is_over: bool,
-    ) {
-        self.whole(rt, bytes);
-        assert!(rt; self.has(said, front, end, is_over));
-        self.single(rt, bytes);
-        assert!(rt; self.has(said, front, end, is_over));
-        assert!(rt; self.written.as_slice() == self.written_before.as_slice());
     }
 
     /// These bytes, and behind them so many letters that there are so many.
     pub fn long(&self, rt: &impl Abort, front: &[u8], count: usize) -> Vec<u8> {
         let mut bytes = front.to_vec(self.alloc).expect(rt, "memory");
         bytes.resize(count, b'a').expect(rt, "memory");
-        bytes
-    }
-
-    /// These bytes, one behind the other.
-    pub fn joined(&self, rt: &impl Abort, front: &[u8], end: &[u8]) -> Vec<u8> {
-        let mut bytes = front.to_vec(self.alloc).expect(rt, "memory");
-        add(rt, &mut bytes, end);
         bytes
     }
 }
@@ -172,7 +133,6 @@ fn browsers_are_answered(rt: HostRuntime) {
         browser: Browser::new(alloc, keys),
         said: Vec::new(alloc),
         written: Vec::new(alloc),
-        written_before: Vec::new(alloc),
     };
     check_requests(&rt, &mut lab);
     check_frames(&rt, &mut lab);

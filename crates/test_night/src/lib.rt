@@ -1,5 +1,5 @@
-//! Tests of the files and texts of a night, and of the club's command line, by what their crates export alone: so none
-//! of these is proved twice.
+//! Tests of the files and texts of a night, by what their crates export alone: so none of these is proved twice. (What
+//! the words make of them stands in `bench/night/rows`.)
 #![tactic(auto)]
 
 #[cfg(test)]
@@ -34,5 +34,3 @@ mod room;
 mod rounds;
 #[cfg(test)]
 mod spectators;
-#[cfg(test)]
-mod words;

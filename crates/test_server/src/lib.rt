@@ -1,19 +1,13 @@
-//! Tests of the server's words, of its clients over connections, and of what sockets are watched, by what their crates
-//! export alone: so none of these is proved twice.
+//! Tests of the server's clock, of its clients over connections, and of what sockets are watched, by what their crates
+//! export alone: so none of these is proved twice. (What its words do stands in `bench/correct/words`.)
 #![tactic(auto)]
 
-#[cfg(test)]
-mod board;
 #[cfg(test)]
 mod clients;
 #[cfg(test)]
 mod clock;
 #[cfg(test)]
-mod command_line;
-#[cfg(test)]
 mod crowds;
-#[cfg(test)]
-mod journals;
 #[cfg(test)]
 mod listeners;
 #[cfg(test)]
@@ -22,9 +16,5 @@ mod memory;
 mod peers;
 #[cfg(test)]
 mod playing;
-#[cfg(test)]
-mod reading;
-#[cfg(test)]
-mod serving;
 #[cfg(test)]
 mod watching;
