@@ -21,10 +21,10 @@ ghost use Rattle.lobby_guests.specs.Guests.{due_at, ahead_at, is_unheard, IsPaid
 ghost use Rattle.lobby_web.specs.Browsing.{WantsBytes, unread};
 ghost use Rattle.lobby_talk.specs.Counting.{refuses_login, counted_up, one_if, refuses, refusals_of};
 ghost use Rattle.lobby_guests.specs.Paces.{player_of, payer_of};
-ghost use Rattle.lobby_guests.specs.Place.{role_of, place_of, Yields};
+ghost use Rattle.lobby_guests.specs.Place.{role_of, work_of, place_of, Yields};
 
 use crate::origin::Origin;
-use crate::place::{Place, Role, is_gone, number_of};
+use crate::place::{Place, Role, Work, is_gone, number_of};
 use crate::waiting::{Waiting, is_line};
 use lobby_desk::{Kind, Message};
 use lobby_talk::{
@@ -172,19 +172,13 @@ impl<S> Guest<S> {
         self.has_more || self.can_read && self.browser.wants_read()
     }
 
-    // Whether the time of one that acts for nobody is not taken too far ahead.
-    fn is_in_time(&self, at: u64) -> bool
-        ensures { result ≡ is_in_time at self.now.paid_until }
-    {
-        self.paid_until.saturating_sub(at) <= AHEAD
-    }
-
     /// Whether something may have come of one that acts for nobody for which its time is not taken too far ahead, and
     /// nothing waits for it.
     pub fn is_due(&self, at: u64) -> bool
         ensures { IsTrue result ↔ IsDue at self.now }
     {
-        !self.is_lost && self.waits.is_empty() && self.is_in_time(at) && self.has_something()
+        let is_in_time = self.paid_until.saturating_sub(at) <= AHEAD;
+        !self.is_lost && self.waits.is_empty() && is_in_time && self.has_something()
     }
 
     /// Whether something may have come of it, nothing waits for it and nothing of its time is taken: nothing was ever
@@ -299,6 +293,20 @@ impl<S> Guest<S> {
         }
     }
 
+    // What is left to do for what came of it.
+    fn work(&self) -> Work
+        ensures { result ≡ work_of self.now }
+    {
+        if self.has_more || !self.browser.out().is_empty() {
+            return Work::Answering;
+        }
+        if self.paid_until > 0 && !self.can_read && self.number.is_none() {
+            Work::Idle
+        } else {
+            Work::Awaited
+        }
+    }
+
     /// Its place.
     pub fn place(&self, talk: &Talk) -> Place
         ensures { result ≡ place_of talk.now.desk self.now }
@@ -308,6 +316,7 @@ impl<S> Guest<S> {
             role: self.role(talk),
             player: self.player(talk),
             since: self.since,
+            work: self.work(),
         }
     }
 

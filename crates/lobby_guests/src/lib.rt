@@ -18,6 +18,6 @@ pub use guests::{
     wake_one, write_all,
 };
 pub use origin::Origin;
-pub use place::{Place, Role, is_gone, number_of};
+pub use place::{Place, Role, Work, is_gone, number_of};
 pub use rounds::{Rounds, law_of_paces};
 pub use waiting::Waiting;

@@ -16,6 +16,17 @@ pub enum Role {
     Newcomer,
 }
 
+/// What is left to do for what came of a connection.
+#[derive(Clone, Copy)]
+pub enum Work {
+    /// It is being answered: something of it may be left to hear, or something to write to it.
+    Answering,
+    /// Requests of it were answered, and nothing more is there.
+    Idle,
+    /// Nothing came of it yet, or its socket is open: what it shows is awaited.
+    Awaited,
+}
+
 /// A connection's place.
 #[derive(Clone, Copy)]
 pub struct Place {
@@ -26,6 +37,7 @@ pub struct Place {
     pub player: Option<Name>,
     /// When it came, in milliseconds.
     pub since: u64,
+    pub work: Work,
 }
 
 /// Whether a connection is to be closed.

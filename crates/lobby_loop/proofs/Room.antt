@@ -9,8 +9,8 @@ use Rattle.lobby_guests.specs.declared.place.Place.{Place}
 use Rattle.lobby_guests.specs.declared.place.Role.{Role}
 use Rattle.lobby_guests.specs.declared.place.Role.TheVariants as roles
 use Rattle.lobby_loop.specs.declared.places.Class.{Class}
-use Rattle.lobby_loop.specs.declared.places.Class.TheVariants.{Players, Nameless, Aged, Own}
-use Rattle.lobby_loop.specs.Places.{is_of, own_room, each_own, HasOwn, AreSpared, IsOwned, is_at, is_nameless, is_player, has_address, counted, count_of, gone, leave, make_room, room_at, room_for, each_room, in_time, most_nameless, judged, IsKeptOrClosed, IsYoung, HasCrowd, HasChance, HaveChance, IsFair}
+use Rattle.lobby_loop.specs.declared.places.Class.TheVariants.{Players, Nameless, Idle, Aged, Own}
+use Rattle.lobby_loop.specs.Places.{is_of, own_room, each_own, HasOwn, AreSpared, IsOwned, is_at, is_nameless, is_player, has_address, counted, count_of, gone, leave, make_room, room_at, room_for, each_room, in_time, most_nameless, judged, is_idle, patience, IsKeptOrClosed, IsYoung, IsActive, HasCrowd, HasChance, HaveChance, IsPressed, MakesRoom, StayOrMakeRoom, IsFair}
 
 -- ---- closing the first
 
@@ -37,11 +37,26 @@ nameless_closable address = record {
   nameless = λ p is. and_right (is_at address p) (is_nameless p.role) is;
 }
 
-pub aged_closable : (address : Option ℕ) (at age : ℕ) → AreClosable (counted address (Aged at age))
-aged_closable address at age = record {
+pub aged_closable : (address : Option ℕ) (at : ℕ) → AreClosable (counted address (Aged at))
+aged_closable address at = record {
   gone_no = λ p. and_false (is_at address (gone p));
-  nameless = λ p is. and_left (is_nameless p.role) (nat_le age (at - p.since)) (and_right (is_at address p) _ is);
+  nameless = λ p is. and_left (is_nameless p.role) (nat_le (patience p.work) (at - p.since)) (and_right (is_at address p) _ is);
 }
+
+idle_nameless : (address : Option ℕ) (p : Place) → counted address Idle p ≡ true → is_nameless p.role ≡ true
+idle_nameless address p is = and_left (is_nameless p.role) (is_idle p.work) (and_right (is_at address p) _ is)
+
+idle_so : (address : Option ℕ) (p : Place) → counted address Idle p ≡ true → is_idle p.work ≡ true
+idle_so address p is = and_right (is_nameless p.role) (is_idle p.work) (and_right (is_at address p) _ is)
+
+pub idle_closable : (address : Option ℕ) → AreClosable (counted address Idle)
+idle_closable address = record { gone_no = λ p. and_false (is_at address (gone p)); nameless = λ p is. idle_nameless address p is }
+
+-- who is idle at an address is nameless there
+idle_counts : (address : Option ℕ) (p : Place) → counted address Idle p ≡ true → counted address Nameless p ≡ true
+idle_counts address p is =
+    let here : is_at address p ≡ true = and_left (is_at address p) (is_nameless p.role && is_idle p.work) is in
+    rw here (idle_nameless address p is)
 
 kept_same : (ps : List Place) → AllZip IsKeptOrClosed ps ps
 kept_same [] = tt
@@ -148,33 +163,38 @@ module _ (P : Place → Bool) (closable : AreClosable P) where
         ])
       ]
 
--- so many fewer are there, or none
-pub leaves_enough : (P : Place → Bool) → AreClosable P → (n : ℕ) (ps : List Place) →
-    (count_by P (leave P n ps) + n ≤ count_by P ps) ⊎ (count_by P (leave P n ps) ≡ 0)
-leaves_enough P closable n [] = inr refl
-leaves_enough P closable n (p ∷ ps) =
+-- of these so many fewer are there, or none is left that may be closed
+pub leaves_some : (P Q : Place → Bool) → AreClosable P → AreClosable Q → ((p : Place) → P p ≡ true → Q p ≡ true) → (n : ℕ) (ps : List Place) →
+    (count_by Q (leave P n ps) + n ≤ count_by Q ps) ⊎ (count_by P (leave P n ps) ≡ 0)
+leaves_some P Q closable counts among n [] = inr refl
+leaves_some P Q closable counts among n (p ∷ ps) =
     elim (leave_step P n p ps) [
       | inl one ↦
-          let here : count_by P (p ∷ ps) ≡ 1 + count_by P ps = count_in P p ps one.held in
-          let there : count_by P (gone p ∷ leave P (n - 1) ps) ≡ count_by P (leave P (n - 1) ps) =
-          count_out P (gone p) (leave P (n - 1) ps) (closable.gone_no p) in
-          elim (leaves_enough P closable (n - 1) ps) [
+          let here : count_by Q (p ∷ ps) ≡ 1 + count_by Q ps = count_in Q p ps (among p one.held) in
+          let there : count_by Q (gone p ∷ leave P (n - 1) ps) ≡ count_by Q (leave P (n - 1) ps) =
+          count_out Q (gone p) (leave P (n - 1) ps) (counts.gone_no p) in
+          elim (leaves_some P Q closable counts among (n - 1) ps) [
             | inl enough ↦ inl (rw one.is (omega (arith, here, there, enough, one.more)))
-            | inr none ↦ inr (rw one.is (there ∙ none))
+            | inr none ↦ inr (rw one.is (count_out P (gone p) (leave P (n - 1) ps) (closable.gone_no p) ∙ none))
           ]
       | inr passes ↦
-          let here : count_by P (p ∷ ps) ≡ cond (P p) 1 0 + count_by P ps = count_more P p ps in
-          let there : count_by P (p ∷ leave P n ps) ≡ cond (P p) 1 0 + count_by P (leave P n ps) = count_more P p (leave P n ps) in
+          let here : count_by Q (p ∷ ps) ≡ cond (Q p) 1 0 + count_by Q ps = count_more Q p ps in
+          let there : count_by Q (p ∷ leave P n ps) ≡ cond (Q p) 1 0 + count_by Q (leave P n ps) = count_more Q p (leave P n ps) in
           elim passes.fails [
             | inl none ↦
-                let less : count_by P (leave P n ps) ≤ count_by P ps = fewer P closable ps (leave P n ps) (leave_keeps P closable n ps) in
+                let less : count_by Q (leave P n ps) ≤ count_by Q ps = fewer Q counts ps (leave P n ps) (leave_keeps P closable n ps) in
                 inl (rw passes.is (omega (arith, here, there, less, none)))
-            | inr not_so ↦ elim (leaves_enough P closable n ps) [
+            | inr not_so ↦ elim (leaves_some P Q closable counts among n ps) [
               | inl enough ↦ inl (rw passes.is (omega (arith, here, there, enough)))
               | inr none ↦ inr (rw passes.is (count_out P p (leave P n ps) not_so ∙ none))
             ]
           ]
     ]
+
+-- so many fewer are there, or none
+pub leaves_enough : (P : Place → Bool) → AreClosable P → (n : ℕ) (ps : List Place) →
+    (count_by P (leave P n ps) + n ≤ count_by P ps) ⊎ (count_by P (leave P n ps) ≡ 0)
+leaves_enough P closable n ps = leaves_some P P closable closable (λ p is. is) n ps
 
 -- ---- making room
 
@@ -201,14 +221,26 @@ players_stay (p ∷ ps) (q ∷ qs) kept =
     ∙ ap (λ n. cond (is_player p.role) 1 0 + n) (players_stay ps qs kept.1) ∙ sym (count_more P p ps)
 
 module _ (address : Option ℕ) (most : ℕ) where
+  -- what is left once those made room that are idle
+  abbrev pub rest_of : List Place → List Place
+  rest_of ps = leave (counted address Idle) (count_of address Nameless ps - most) ps
+
+  pub rest_keeps : (ps : List Place) → AllZip IsKeptOrClosed ps (rest_of ps)
+  rest_keeps ps = leave_keeps (counted address Idle) (idle_closable address) (count_of address Nameless ps - most) ps
+
+  pub last_keeps : (rest : List Place) →
+      AllZip IsKeptOrClosed rest (leave (counted address Nameless) (count_of address Nameless rest - most) rest)
+  last_keeps rest = leave_keeps (counted address Nameless) (nameless_closable address) (count_of address Nameless rest - most) rest
+
   pub room_keeps : (ps : List Place) → AllZip IsKeptOrClosed ps (make_room address most ps)
-  room_keeps ps = leave_keeps (counted address Nameless) (nameless_closable address) (count_of address Nameless ps - most) ps
+  room_keeps ps = kept_trans ps (rest_of ps) (make_room address most ps) (rest_keeps ps) (last_keeps (rest_of ps))
 
   pub room_made : (ps : List Place) → count_of address Nameless (make_room address most ps) ≤ most
   room_made ps =
-      let less : count_of address Nameless (make_room address most ps) ≤ count_of address Nameless ps =
-      fewer (counted address Nameless) (nameless_closable address) ps (make_room address most ps) (room_keeps ps) in
-      elim (leaves_enough (counted address Nameless) (nameless_closable address) (count_of address Nameless ps - most) ps) [
+      let rest = rest_of ps in
+      let less : count_of address Nameless (make_room address most ps) ≤ count_of address Nameless rest =
+      fewer (counted address Nameless) (nameless_closable address) rest (make_room address most ps) (last_keeps rest) in
+      elim (leaves_enough (counted address Nameless) (nameless_closable address) (count_of address Nameless rest - most) rest) [
         | inl enough ↦ omega (arith, enough, less)
         | inr none ↦ omega (arith, none)
       ]
@@ -231,12 +263,12 @@ module _ (at most : ℕ) where
   chance_same [] = tt
   chance_same (p ∷ ps) = (λ young. inl refl, chance_same ps)
 
-  one_chance : (p q r : Place) (ps qs : List Place) → AllZip IsKeptOrClosed ps qs → (IsYoung at p → HasChance most p ps q) →
-      (IsYoung at q → HasChance most q qs r) → IsYoung at p → HasChance most p ps r
+  one_chance : (p q r : Place) (ps qs : List Place) → AllZip IsKeptOrClosed ps qs → (IsActive at p → HasChance most p ps q) →
+      (IsActive at q → HasChance most q qs r) → IsActive at p → HasChance most p ps r
   one_chance p q r ps qs kept first second young =
       elim (first young) [
         | inr behind ↦ inr behind
-        | inl same ↦ elim (second (subst (λ (x : Place). IsYoung at x) (sym same) young)) [
+        | inl same ↦ elim (second (subst (λ (x : Place). IsActive at x) (sym same) young)) [
           | inl again ↦ inl (again ∙ same)
           | inr behind ↦ elim behind [
             | inl many ↦ inr (inl (omega (arith, many, fewer (counted None Nameless) (nameless_closable None) ps qs kept)))
@@ -254,7 +286,7 @@ module _ (at most : ℕ) where
       (one_chance p q r ps qs kept.1 first.0 second.0, chance_trans ps qs rs kept.1 first.1 second.1)
 
   -- where only others are closed
-  chance_leave : (P : Place → Bool) → ((p : Place) → P p ≡ true → IsYoung at p → ⊥) → (n : ℕ) (ps : List Place) →
+  chance_leave : (P : Place → Bool) → ((p : Place) → P p ≡ true → IsActive at p → ⊥) → (n : ℕ) (ps : List Place) →
       HaveChance at most ps (leave P n ps)
   chance_leave P old n [] = tt
   chance_leave P old n (p ∷ ps) =
@@ -293,13 +325,20 @@ module _ (at most : ℕ) where
           )
         ]
 
-    room_chance : (ps : List Place) → HaveChance at most ps (make_room address m ps)
-    room_chance ps =
-        chance_nameless (count_of address Nameless ps - m) ps
-        (elim (at_most_or_more (count_of address Nameless ps) m) [
+    last_chance : (rest : List Place) → HaveChance at most rest (leave (counted address Nameless) (count_of address Nameless rest - m) rest)
+    last_chance rest =
+        chance_nameless (count_of address Nameless rest - m) rest
+        (elim (at_most_or_more (count_of address Nameless rest) m) [
           | inl few ↦ inr (omega (arith, few))
           | inr many ↦ inl (omega (arith, many))
         ])
+
+    room_chance : (ps : List Place) → HaveChance at most ps (make_room address m ps)
+    room_chance ps =
+        let rest = rest_of address m ps in
+        chance_trans ps rest (make_room address m ps) (rest_keeps address m ps)
+        (chance_leave (counted address Idle) (λ p is active. absurd (cc (idle_so address p is, active.1))) (count_of address Nameless ps - m) ps)
+        (last_chance rest)
 
   in_all : (p : Place) (behind : List Place) → counted None Nameless p ≡ true → most ≤ count_of None Nameless behind →
       (most ≤ count_of None Nameless behind) ⊎ HasCrowd p.address behind
@@ -345,10 +384,10 @@ module _ (at : ℕ) where
       chance_trans at most ps (room_for q ps) (each_room qs (room_for q ps)) (for_keeps q ps) (for_chance most q ps)
       (each_chance most qs (room_for q ps))
 
-  not_late : (p : Place) → counted None (Aged at 20000) p ≡ true → IsYoung at p → ⊥
+  not_late : (p : Place) → counted None (Aged at) p ≡ true → IsYoung at p → ⊥
   not_late p is young =
-      let late : nat_le 20000 (at - p.since) ≡ true = and_right (is_nameless p.role) (nat_le 20000 (at - p.since)) is in
-      let so_late : 20000 ≤ at - p.since = grind (arith, nat_tests, late) in
+      let late : nat_le (patience p.work) (at - p.since) ≡ true = and_right (is_nameless p.role) (nat_le (patience p.work) (at - p.since)) is in
+      let so_late : patience p.work ≤ at - p.since = grind (arith, nat_tests, late) in
       omega (arith, so_late, young.1)
 
   module _ (a : ℕ) where
@@ -388,21 +427,204 @@ module _ (at : ℕ) where
   pub time_keeps : (from : ℕ) (ps : List Place) → AllZip IsKeptOrClosed ps (in_time at from ps)
   time_keeps from ps =
       elim (cases (nat_le 20000 (at - from))) [
-        | inl is_so ↦ rw is_so (leave_keeps (counted None (Aged at 20000)) (aged_closable None at 20000) (length ps) ps)
+        | inl is_so ↦ rw is_so (leave_keeps (counted None (Aged at)) (aged_closable None at) (length ps) ps)
         | inr not_so ↦ rw not_so (kept_same ps)
       ]
 
   time_chance : (most from : ℕ) (ps : List Place) → HaveChance at most ps (in_time at from ps)
   time_chance most from ps =
       elim (cases (nat_le 20000 (at - from))) [
-        | inl is_so ↦ rw is_so (chance_leave at most (counted None (Aged at 20000)) not_late (length ps) ps)
+        | inl is_so ↦ rw is_so (chance_leave at most (counted None (Aged at)) (λ p is active. not_late p is active.0) (length ps) ps)
         | inr not_so ↦ rw not_so (chance_same at most ps)
       ]
 
-  pub time_is_up : (from : ℕ) (ps : List Place) → 20000 ≤ at - from → count_of None (Aged at 20000) (in_time at from ps) ≡ 0
+  pub time_is_up : (from : ℕ) (ps : List Place) → 20000 ≤ at - from → count_of None (Aged at) (in_time at from ps) ≡ 0
   time_is_up from ps over =
       let is_so : nat_le 20000 (at - from) ≡ true = grind (arith, nat_tests, over) in
-      rw is_so (none_left (counted None (Aged at 20000)) (aged_closable None at 20000) (length ps) ps (count_by-le-length _ ps))
+      rw is_so (none_left (counted None (Aged at)) (aged_closable None at) (length ps) ps (count_by-le-length _ ps))
+
+  -- ---- whose time is not over stays, or makes room
+
+  abbrev IsStaying : ℕ → List Place → List Place → Place → Place → Type 0
+  IsStaying most before after p q = IsYoung at p → (q ≡ p) ⊎ MakesRoom most before after p
+
+  count_in_all : (o : Option ℕ) (class : Class) (ps : List Place) → count_of o class ps ≤ count_of None class ps
+  count_in_all o class [] = omega arith
+  count_in_all o class (p ∷ ps) =
+      let here : count_of o class (p ∷ ps) ≡ cond (counted o class p) 1 0 + count_of o class ps = count_more (counted o class) p ps in
+      let there : count_of None class (p ∷ ps) ≡ cond (counted None class p) 1 0 + count_of None class ps =
+      count_more (counted None class) p ps in
+      elim (cases (counted o class p)) [
+        | inl is_so ↦
+            let too : counted None class p ≡ true = and_right (is_at o p) (counted None class p) is_so in
+            let one : cond (counted o class p) 1 0 ≡ 1 = rw is_so refl in
+            let other : cond (counted None class p) 1 0 ≡ 1 = rw too refl in
+            omega (arith, here, there, one, other, count_in_all o class ps)
+        | inr not_so ↦
+            let one : cond (counted o class p) 1 0 ≡ 0 = rw not_so refl in
+            omega (arith, here, there, one, count_in_all o class ps)
+      ]
+
+  pressed_more : (most : ℕ) (o : Option ℕ) (ps qs : List Place) → AllZip IsKeptOrClosed ps qs → IsPressed most o qs → IsPressed most o ps
+  pressed_more most None ps qs kept pressed = omega (arith, pressed, fewer (counted None Nameless) (nameless_closable None) ps qs kept)
+  pressed_more most (Some a) ps qs kept pressed =
+      elim pressed [
+        | inl all ↦ inl (omega (arith, all, fewer (counted None Nameless) (nameless_closable None) ps qs kept))
+        | inr here ↦ inr (omega (arith, here, fewer (counted (Some a) Nameless) (nameless_closable (Some a)) ps qs kept))
+      ]
+
+  makes_before : (most : ℕ) (ps qs after : List Place) → AllZip IsKeptOrClosed ps qs → (p : Place) → MakesRoom most qs after p →
+      MakesRoom most ps after p
+  makes_before most ps qs after kept p makes = (λ idle. pressed_more most p.address ps qs kept (makes.0 idle), makes.1)
+
+  makes_after : (most : ℕ) (before qs rs : List Place) → AllZip IsKeptOrClosed qs rs → (p : Place) → MakesRoom most before qs p →
+      MakesRoom most before rs p
+  makes_after most before qs rs kept p makes = (
+    makes.0,
+    λ busy. omega (arith, makes.1 busy, fewer (counted p.address Idle) (idle_closable p.address) qs rs kept),
+  )
+
+  stay_by : (most : ℕ) (before before_2 after after_2 : List Place) →
+      ((p : Place) → MakesRoom most before after p → MakesRoom most before_2 after_2 p) → (ps qs : List Place) →
+      AllZip (IsStaying most before after) ps qs → AllZip (IsStaying most before_2 after_2) ps qs
+  stay_by most b b2 a a2 each [] [] all = tt
+  stay_by most b b2 a a2 each [] (q ∷ qs) all = absurd all
+  stay_by most b b2 a a2 each (p ∷ ps) [] all = absurd all
+  stay_by most b b2 a a2 each (p ∷ ps) (q ∷ qs) all = (
+    λ young. elim (all.0 young) [ inl same ↦ inl same | inr makes ↦ inr (each p makes) ],
+    stay_by most b b2 a a2 each ps qs all.1,
+  )
+
+  stay_twice : (most : ℕ) (before after : List Place) (p q r : Place) → IsStaying most before after p q → IsStaying most before after q r →
+      IsStaying most before after p r
+  stay_twice most before after p q r first second young =
+      elim (first young) [
+        | inr makes ↦ inr makes
+        | inl same ↦ elim (second (subst (λ (x : Place). IsYoung at x) (sym same) young)) [
+          | inl again ↦ inl (again ∙ same)
+          | inr makes ↦ inr (subst (λ (x : Place). MakesRoom most before after x) same makes)
+        ]
+      ]
+
+  stay_then : (most : ℕ) (before after ps qs rs : List Place) → AllZip (IsStaying most before after) ps qs →
+      AllZip (IsStaying most before after) qs rs → AllZip (IsStaying most before after) ps rs
+  stay_then most b a [] [] [] first second = tt
+  stay_then most b a [] [] (r ∷ rs) first second = second
+  stay_then most b a [] (q ∷ qs) rs first second = absurd first
+  stay_then most b a (p ∷ ps) [] rs first second = absurd first
+  stay_then most b a (p ∷ ps) (q ∷ qs) [] first second = absurd second
+  stay_then most b a (p ∷ ps) (q ∷ qs) (r ∷ rs) first second =
+      (stay_twice most b a p q r first.0 second.0, stay_then most b a ps qs rs first.1 second.1)
+
+  stay_trans : (most : ℕ) (ps qs rs : List Place) → AllZip IsKeptOrClosed ps qs → AllZip IsKeptOrClosed qs rs →
+      StayOrMakeRoom at most ps qs → StayOrMakeRoom at most qs rs → StayOrMakeRoom at most ps rs
+  stay_trans most ps qs rs k1 k2 first second =
+      stay_then most ps rs ps qs rs (stay_by most ps ps qs rs (makes_after most ps qs rs k2) ps qs first)
+      (stay_by most qs ps rs rs (makes_before most ps qs rs k1) qs rs second)
+
+  stay_same : (most : ℕ) (before after ps : List Place) → AllZip (IsStaying most before after) ps ps
+  stay_same most before after [] = tt
+  stay_same most before after (p ∷ ps) = (λ young. inl refl, stay_same most before after ps)
+
+  -- where only those are closed who make room
+  stay_leave : (most : ℕ) (before after : List Place) (P : Place → Bool) (n : ℕ) →
+      ((p : Place) → 0 < n → P p ≡ true → IsYoung at p → MakesRoom most before after p) → (ps : List Place) →
+      AllZip (IsStaying most before after) ps (leave P n ps)
+  stay_leave most b a P n closes [] = tt
+  stay_leave most b a P n closes (p ∷ ps) =
+      elim (leave_step P n p ps) [
+        | inl one ↦ rw one.is (
+          λ young. inr (closes p one.more one.held young),
+          stay_leave most b a P (n - 1) (λ q more is young. closes q one.more is young) ps,
+        )
+        | inr passes ↦ rw passes.is (λ young. inl refl, stay_leave most b a P n closes ps)
+      ]
+
+  -- the conditions on which it is proved of one address, or of all
+  module _ (most : ℕ) (address : Option ℕ) (m : ℕ)
+      (pressed : (p : Place) (ps : List Place) → counted address Nameless p ≡ true → m < count_of address Nameless ps → IsPressed most p.address ps)
+      (none_left_there : (p : Place) (ps : List Place) → counted address Nameless p ≡ true → count_of address Idle ps ≡ 0 →
+      count_of p.address Idle ps ≡ 0) where
+    stay_rest : (ps after : List Place) → AllZip (IsStaying most ps after) ps (rest_of address m ps)
+    stay_rest ps after =
+        stay_leave most ps after (counted address Idle) (count_of address Nameless ps - m)
+        (λ p more is young. (
+          λ idle. pressed p ps (idle_counts address p is) (omega (arith, more)),
+          λ busy. absurd (cc (idle_so address p is, busy)),
+        )) ps
+
+    stay_last : (ps : List Place) → AllZip (IsStaying most ps (make_room address m ps)) (rest_of address m ps) (make_room address m ps)
+    stay_last ps =
+        let rest = rest_of address m ps in
+        let after = make_room address m ps in
+        let n = count_of address Nameless rest - m in
+        let less : count_of address Nameless rest ≤ count_of address Nameless ps =
+        fewer (counted address Nameless) (nameless_closable address) ps rest (rest_keeps address m ps) in
+        let fewer_idle : count_of address Idle after ≤ count_of address Idle rest =
+        fewer (counted address Idle) (idle_closable address) rest after (last_keeps address m rest) in
+        stay_leave most ps after (counted address Nameless) n
+        (λ p more is young. (
+          λ idle. pressed p ps is (omega (arith, more, less)),
+          λ busy. elim (leaves_some (counted address Idle) (counted address Nameless) (idle_closable address) (nameless_closable address)
+              (idle_counts address) (count_of address Nameless ps - m) ps) [
+                | inl enough ↦ absurd (omega (arith, enough, more, less))
+                | inr none ↦ none_left_there p after is (omega (arith, none, fewer_idle))
+              ],
+        )) rest
+
+    stay_room : (ps : List Place) → StayOrMakeRoom at most ps (make_room address m ps)
+    stay_room ps =
+        stay_then most ps (make_room address m ps) ps (rest_of address m ps) (make_room address m ps)
+        (stay_rest ps (make_room address m ps)) (stay_last ps)
+
+  pressed_all : (most : ℕ) (o : Option ℕ) (ps : List Place) → most < count_of None Nameless ps → IsPressed most o ps
+  pressed_all most None ps many = many
+  pressed_all most (Some a) ps many = inl many
+
+  pressed_at : (most a : ℕ) (o : Option ℕ) (ps : List Place) → has_address a o ≡ true → 32 < count_of (Some a) Nameless ps → IsPressed most o ps
+  pressed_at most a None ps is many = absurd (cc)
+  pressed_at most a (Some b) ps is many =
+      let same : b ≡ a = grind (arith, nat_tests, is) in
+      inr (subst (λ k. 32 < count_of (Some k) Nameless ps) (sym same) many)
+
+  idle_at : (a : ℕ) (o : Option ℕ) (ps : List Place) → has_address a o ≡ true → count_of (Some a) Idle ps ≡ 0 → count_of o Idle ps ≡ 0
+  idle_at a None ps is none = absurd (cc)
+  idle_at a (Some b) ps is none =
+      let same : b ≡ a = grind (arith, nat_tests, is) in
+      subst (λ k. count_of (Some k) Idle ps ≡ 0) (sym same) none
+
+  stay_all : (most : ℕ) (ps : List Place) → StayOrMakeRoom at most ps (make_room None most ps)
+  stay_all most ps =
+      stay_room most None most (λ p qs is many. pressed_all most p.address qs many)
+      (λ p qs is none. omega (arith, none, count_in_all p.address Idle qs)) ps
+
+  stay_at : (most : ℕ) (o : Option ℕ) (ps : List Place) → StayOrMakeRoom at most ps (room_at o ps)
+  stay_at most None ps = stay_same most ps ps ps
+  stay_at most (Some a) ps =
+      stay_room most (Some a) 32
+      (λ p qs is many. pressed_at most a p.address qs (and_left (has_address a p.address) (is_nameless p.role) is) many)
+      (λ p qs is none. idle_at a p.address qs (and_left (has_address a p.address) (is_nameless p.role) is) none) ps
+
+  stay_for : (most : ℕ) (q : Place) (ps : List Place) → StayOrMakeRoom at most ps (room_for q ps)
+  stay_for most q ps =
+      elim (cases (is_nameless q.role)) [
+        | inl is_so ↦ rw is_so (stay_at most q.address ps)
+        | inr not_so ↦ rw not_so (stay_same most ps ps ps)
+      ]
+
+  stay_each : (most : ℕ) (qs ps : List Place) → StayOrMakeRoom at most ps (each_room qs ps)
+  stay_each most [] ps = stay_same most ps ps ps
+  stay_each most (q ∷ qs) ps =
+      stay_trans most ps (room_for q ps) (each_room qs (room_for q ps)) (for_keeps q ps) (each_keeps qs (room_for q ps)) (stay_for most q ps)
+      (stay_each most qs (room_for q ps))
+
+  stay_in_time : (most from : ℕ) (ps : List Place) → StayOrMakeRoom at most ps (in_time at from ps)
+  stay_in_time most from ps =
+      elim (cases (nat_le 20000 (at - from))) [
+        | inl is_so ↦ rw is_so (stay_leave most ps (leave (counted None (Aged at)) (length ps) ps) (counted None (Aged at)) (length ps)
+            (λ p more is young. absurd (not_late p is young)) ps)
+        | inr not_so ↦ rw not_so (stay_same most ps ps ps)
+      ]
 
   pub fair : (from : ℕ) (old : List Place) → IsFair at from old (judged at from old)
   fair from old =
@@ -415,8 +637,8 @@ module _ (at : ℕ) where
       let k3 = room_keeps None most spread in
       let k23 = kept_trans late spread new k2 k3 in
       let same : count_of None Players new ≡ count_of None Players spread = players_stay spread new k3 in
-      let fewer_late : count_of None (Aged at 20000) new ≤ count_of None (Aged at 20000) late =
-      fewer (counted None (Aged at 20000)) (aged_closable None at 20000) late new k23 in
+      let fewer_late : count_of None (Aged at) new ≤ count_of None (Aged at) late =
+      fewer (counted None (Aged at)) (aged_closable None at) late new k23 in
       record {
         kept = kept_trans old late new k1 k23;
         nameless = subst (λ k. count_of None Nameless new ≤ most_nameless k) (sym same) (room_made None most spread);
@@ -428,6 +650,9 @@ module _ (at : ℕ) where
             (chance_trans at most old late new k1 (time_chance most from old)
             (chance_trans at most late spread new k2 (each_chance most late late)
             (room_chance at most None most (in_all at most) spread)));
+        room = subst (λ k. StayOrMakeRoom at (most_nameless k) old new) (sym same)
+            (stay_trans most old late new k1 k23 (stay_in_time most from old)
+            (stay_trans most late spread new k2 k3 (stay_each most late late) (stay_all most spread)));
         in_time = λ over. omega (arith, fewer_late, time_is_up from old over);
       }
 

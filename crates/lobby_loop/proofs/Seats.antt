@@ -8,11 +8,12 @@ use Rattle.lobby_talk.specs.Talking.{acts_at}
 use Rattle.lobby_guests.specs.declared.guest.Guest.{Guest}
 use Rattle.lobby_guests.specs.declared.place.Place.{Place}
 use Rattle.lobby_guests.specs.declared.place.Role.{Role}
+use Rattle.lobby_guests.specs.declared.place.Work.{Work}
 use Rattle.lobby_guests.specs.Guests.{IsAsBefore}
 use Rattle.lobby_guests.specs.Place.{is_gone}
 use Rattle.lobby_loop.specs.Places.{is_player, gone, each_own, judged, IsKeptOrClosed, IsKeptOrGone, IsOwned, IsFair}
 use Rattle.lobby_guests.specs.Place.{role_by}
-use Rattle.lobby_guests.specs.Place.{role_of, player_of, place_of, Yields}
+use Rattle.lobby_guests.specs.Place.{role_of, player_of, work_of, place_of, Yields}
 use Rattle.lobby_loop.specs.Seating.{AreYielding, YieldAt, AreSeated, AreSeatedIf}
 use Rattle.lobby_guests.proofs.Catching.{same_guest}
 use Rattle.lobby_talk.proofs.Each.{SameFrom, further_same, further_front}
@@ -80,8 +81,9 @@ lost_stays desk true number = refl
 lost_stays desk false number = ap (λ (b : Bool). role_of desk b number) (role_stays (acts_at desk number))
 
 -- a place of these parts
-abbrev place_with : Option ℕ → Role → Option (List ℕ) → ℕ → Place
-place_with address role player since = record { address = address; role = role; player = player; since = since }
+abbrev place_with : Option ℕ → Role → Option (List ℕ) → ℕ → Work → Place
+place_with address role player since work =
+    record { address = address; role = role; player = player; since = since; work = work }
 
 -- who is closed by either is closed
 gone_twice : (p q r : Place) → (q ≡ p) ⊎ ((is_player p.role ≡ true) × (q ≡ gone p)) → IsKeptOrClosed q r → IsKeptOrGone p r
@@ -103,16 +105,21 @@ kept_or_gone (p ∷ ps) (q ∷ qs) (r ∷ rs) first second =
 
 module _ {S : Type 0} (desk : Desk) where
   yielded_place : (p : Place) (g h : Guest S) → Yields p g h →
-      place_of desk h ≡ place_with g.origin.address (role_of desk (g.is_lost || is_gone p.role) g.number) (player_of desk g.number) g.since
+      place_of desk h
+      ≡ place_with g.origin.address (role_of desk (g.is_lost || is_gone p.role) g.number) (player_of desk g.number) g.since (work_of g)
   yielded_place p g h yields =
-      ap (λ o. place_with o.address (role_of desk h.is_lost h.number) (player_of desk h.number) h.since) yields.before.still.visit.origin
-      ∙ ap (λ b. place_with g.origin.address (role_of desk b h.number) (player_of desk h.number) h.since) yields.lost
-      ∙ ap (λ n. place_with g.origin.address (role_of desk (g.is_lost || is_gone p.role) n) (player_of desk n) h.since) yields.before.still.number
-      ∙ ap (λ n. place_with g.origin.address (role_of desk (g.is_lost || is_gone p.role) g.number) (player_of desk g.number) n) yields.before.still.visit.since
+      let role = role_of desk (g.is_lost || is_gone p.role) g.number in
+      let player = player_of desk g.number in
+      ap (λ o. place_with o.address (role_of desk h.is_lost h.number) (player_of desk h.number) h.since (work_of h)) yields.before.still.visit.origin
+      ∙ ap (λ b. place_with g.origin.address (role_of desk b h.number) (player_of desk h.number) h.since (work_of h)) yields.lost
+      ∙ ap (λ n. place_with g.origin.address (role_of desk (g.is_lost || is_gone p.role) n) (player_of desk n) h.since (work_of h))
+      yields.before.still.number
+      ∙ ap (λ n. place_with g.origin.address role player n (work_of h)) yields.before.still.visit.since
+      ∙ ap (λ w. place_with g.origin.address role player g.since w) yields.work
 
   one_place : (p : Place) (g h : Guest S) → Yields p g h → IsKeptOrGone (place_of desk g) p → place_of desk h ≡ p
   one_place p g h yields kept =
-      let with_role : Role → Place = λ r. place_with g.origin.address r (player_of desk g.number) g.since in
+      let with_role : Role → Place = λ r. place_with g.origin.address r (player_of desk g.number) g.since (work_of g) in
       elim kept [
         | inl same ↦
             yielded_place p g h yields

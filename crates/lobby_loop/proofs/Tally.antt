@@ -7,7 +7,7 @@ use Rattle.std.specs.Ordering.{nat_cmp}
 use Rattle.std.proofs.lemmas.Bool.Decides.{nat_tests}
 use Rattle.lobby_guests.specs.declared.place.Place.{Place}
 use Rattle.lobby_loop.specs.declared.places.Class.{Class}
-use Rattle.lobby_loop.specs.declared.places.Class.TheVariants.{Nameless, Own}
+use Rattle.lobby_loop.specs.declared.places.Class.TheVariants.{Nameless, Idle, Own}
 use Rattle.lobby_loop.specs.Places.{is_nameless, counted, count_of, leave, make_room, room_for, IsTallied, own_room, number_of, IsTalliedByName}
 use Rattle.lobby_loop.proofs.Room.{fewer, nameless_closable, room_keeps, room_made, fewer_own, room_owns}
 
@@ -18,7 +18,9 @@ leave_none P (p ∷ ps) = ap (λ qs. p ∷ qs) (leave_none P ps)
 room_none : (address : Option ℕ) (most : ℕ) (ps : List Place) → count_of address Nameless ps ≤ most → make_room address most ps ≡ ps
 room_none address most ps few =
     let none : count_of address Nameless ps - most ≡ 0 = omega (arith, few) in
-    ap (λ n. leave (counted address Nameless) n ps) none ∙ leave_none (counted address Nameless) ps
+    let last : List Place → List Place = λ rest. leave (counted address Nameless) (count_of address Nameless rest - most) rest in
+    ap (λ n. last (leave (counted address Idle) n ps)) none ∙ ap last (leave_none (counted address Idle) ps)
+    ∙ ap (λ n. leave (counted address Nameless) n ps) none ∙ leave_none (counted address Nameless) ps
 
 -- where no more than 32 are told at an address there are no more
 few_there : (tally : BTreeMap ℕ ℕ) (ps : List Place) (a : ℕ) → IsTallied tally ps → count_at (get nat_cmp tally) a ≤ 32 →

@@ -9,10 +9,12 @@ use Rattle.std.specs.Str.{bytes_eq}
 use Rattle.lobby_guests.specs.declared.place.Place.{Place}
 use Rattle.lobby_guests.specs.declared.place.Role.{Role}
 use Rattle.lobby_guests.specs.declared.place.Role.TheVariants as roles
+use Rattle.lobby_guests.specs.declared.place.Work.{Work}
+use Rattle.lobby_guests.specs.declared.place.Work.TheVariants as works
 pub use Rattle.lobby_guests.specs.Paces.{number_of}
 use Rattle.lobby_guests.specs.Place.{is_gone}
 use Rattle.lobby_loop.specs.declared.places.Class.{Class}
-use Rattle.lobby_loop.specs.declared.places.Class.TheVariants.{Gone, Players, Nameless, Aged, Own}
+use Rattle.lobby_loop.specs.declared.places.Class.TheVariants.{Gone, Players, Nameless, Idle, Aged, Own}
 
 -- ---- which connections are counted
 
@@ -27,6 +29,18 @@ is_nameless roles.Gone = false
 is_nameless roles.Player = false
 is_nameless roles.Newcomer = true
 
+-- Its requests were answered, and nothing more is there.
+abbrev pub is_idle : Work → Bool
+is_idle works.Answering = false
+is_idle works.Idle = true
+is_idle works.Awaited = false
+
+-- So long a nameless one has: 20 seconds, and where it is being answered 20 more.
+abbrev pub patience : Work → ℕ
+patience works.Answering = 40000
+patience works.Idle = 20000
+patience works.Awaited = 20000
+
 -- It acts for the player of this name.
 abbrev pub is_of : List ℕ → Option (List ℕ) → Bool
 is_of name None = false
@@ -36,7 +50,8 @@ abbrev pub is_in : Class → Place → Bool
 is_in Gone p = is_gone p.role
 is_in Players p = is_player p.role
 is_in Nameless p = is_nameless p.role
-is_in (Aged at age) p = is_nameless p.role && nat_le age (at - p.since)
+is_in Idle p = is_nameless p.role && is_idle p.work
+is_in (Aged at) p = is_nameless p.role && nat_le (patience p.work) (at - p.since)
 is_in (Own name) p = is_player p.role && is_of name p.player
 
 -- It counts for this address; without one all do.
@@ -79,9 +94,12 @@ abbrev pub IsTalliedByName : BTreeMap ℕ ℕ → List Place → Type 0
 IsTalliedByName tally ps =
     (name : List ℕ) → min 17 (count_of None (Own name) ps) ≤ count_at (get nat_cmp tally) (number_of name)
 
--- Nameless connections make room until so many are left: who came first.
+-- Nameless connections make room until so many are left: of those that are idle who came first, and where these are
+-- too few of the others.
 abbrev pub make_room : Option ℕ → ℕ → List Place → List Place
-make_room address most ps = leave (counted address Nameless) (count_of address Nameless ps - most) ps
+make_room address most ps =
+    let rest = leave (counted address Idle) (count_of address Nameless ps - most) ps in
+    leave (counted address Nameless) (count_of address Nameless rest - most) rest
 
 -- An address has at most 32 nameless ones.
 abbrev pub room_at : Option ℕ → List Place → List Place
@@ -99,9 +117,9 @@ each_room (q ∷ qs) ps = each_room qs (room_for q ps)
 abbrev pub IsTallied : BTreeMap ℕ ℕ → List Place → Type 0
 IsTallied tally ps = (a : ℕ) → min 33 (count_of (Some a) Nameless ps) ≤ count_at (get nat_cmp tally) a
 
--- A nameless one has 20 seconds, from this moment on if it came before.
+-- A nameless one has its time, of which 20 seconds are from this moment on if it came before.
 abbrev pub in_time : ℕ → ℕ → List Place → List Place
-in_time at from ps = if nat_le 20000 (at - from) then leave (counted None (Aged at 20000)) (length ps) ps else ps
+in_time at from ps = if nat_le 20000 (at - from) then leave (counted None (Aged at)) (length ps) ps else ps
 
 -- Of a thousand places 600 at most are for nameless ones, those that no player has; but 40 at least.
 abbrev pub most_nameless : ℕ → ℕ
@@ -142,9 +160,13 @@ pub record IsOwned (old new : List Place) : Type 0 where
 abbrev pub IsKeptOrClosed : Place → Place → Type 0
 IsKeptOrClosed old new = (new ≡ old) ⊎ ((is_nameless old.role ≡ true) × (new ≡ gone old))
 
--- a nameless one that came less than 20 seconds ago
+-- a nameless one whose time is not over
 abbrev pub IsYoung : ℕ → Place → Type 0
-IsYoung at p = (is_nameless p.role ≡ true) × (at - p.since < 20000)
+IsYoung at p = (is_nameless p.role ≡ true) × (at - p.since < patience p.work)
+
+-- the same of one that is being answered, or of which something is awaited
+abbrev pub IsActive : ℕ → Place → Type 0
+IsActive at p = IsYoung at p × (is_idle p.work ≡ false)
 
 -- Among these 32 nameless ones are of an address.
 abbrev pub HasCrowd : Option ℕ → List Place → Type 0
@@ -155,11 +177,28 @@ HasCrowd (Some a) behind = 32 ≤ count_of (Some a) Nameless behind
 abbrev pub HasChance : ℕ → Place → List Place → Place → Type 0
 HasChance most old behind new = (new ≡ old) ⊎ ((most ≤ count_of None Nameless behind) ⊎ HasCrowd old.address behind)
 
--- So it is of each nameless one that came less than 20 seconds ago: in that time it may show a token.
+-- So it is of each whose time is not over and which is not idle: in that time it is answered, or may show a token.
 abbrev pub HaveChance : ℕ → ℕ → List Place → List Place → Type 0
 HaveChance at most [] new = Unit {0}
 HaveChance at most (p ∷ ps) [] = ⊥
-HaveChance at most (p ∷ ps) (q ∷ qs) = (IsYoung at p → HasChance most p ps q) × HaveChance at most ps qs
+HaveChance at most (p ∷ ps) (q ∷ qs) = (IsActive at p → HasChance most p ps q) × HaveChance at most ps qs
+
+-- More nameless ones are there than may be, in all or from this address.
+abbrev pub IsPressed : ℕ → Option ℕ → List Place → Type 0
+IsPressed most None ps = most < count_of None Nameless ps
+IsPressed most (Some a) ps = (most < count_of None Nameless ps) ⊎ (32 < count_of (Some a) Nameless ps)
+
+-- One that is idle makes room only where that has to be made, and another only where no idle one is left: in all, or of
+-- its address.
+abbrev pub MakesRoom : ℕ → List Place → List Place → Place → Type 0
+MakesRoom most before after p =
+    (is_idle p.work ≡ true → IsPressed most p.address before)
+    × (is_idle p.work ≡ false → count_of p.address Idle after ≡ 0)
+
+-- Each whose time is not over stays, or makes room.
+abbrev pub StayOrMakeRoom : ℕ → ℕ → List Place → List Place → Type 0
+StayOrMakeRoom at most old new =
+    AllZip (λ (p q : Place). IsYoung at p → (q ≡ p) ⊎ MakesRoom most old new p) old new
 
 -- what holds of the connections that stay
 pub record IsFair (at from : ℕ) (old new : List Place) : Type 0 where
@@ -167,4 +206,5 @@ pub record IsFair (at from : ℕ) (old new : List Place) : Type 0 where
   pub nameless : count_of None Nameless new ≤ most_nameless (count_of None Players new)
   pub addresses : (a : ℕ) → count_of (Some a) Nameless new ≤ 32
   pub chance : HaveChance at (most_nameless (count_of None Players new)) old new
-  pub in_time : 20000 ≤ at - from → count_of None (Aged at 20000) new ≡ 0
+  pub room : StayOrMakeRoom at (most_nameless (count_of None Players new)) old new
+  pub in_time : 20000 ≤ at - from → count_of None (Aged at) new ≡ 0

@@ -6,10 +6,10 @@ ghost use Rattle.std.specs.Map.{count_at};
 ghost use Rattle.std.specs.Ordering.{nat_cmp};
 ghost use Rattle.lobby_loop.specs.Places.{is_of, is_at, is_in, counted, count_of, own_room, each_own, leave};
 ghost use Rattle.lobby_loop.specs.Places.{make_room, room_for, each_room, in_time};
-ghost use Rattle.lobby_loop.specs.Places.{most_nameless, judged, IsOwned, IsFair, IsTallied};
+ghost use Rattle.lobby_loop.specs.Places.{most_nameless, judged, patience, IsOwned, IsFair, IsTallied};
 ghost use Rattle.lobby_loop.specs.Places.{number_of, IsTalliedByName};
 
-use lobby_guests::{Place, Role, is_gone, number_of};
+use lobby_guests::{Place, Role, Work, is_gone, number_of};
 use player_name::Name;
 use std::alloc::{AllocError, Global};
 use std::collections::BTreeMap;
@@ -21,14 +21,19 @@ enum Class {
     Players,
     /// Who acts for nobody.
     Nameless,
-    /// Of these, at a moment, who came so many milliseconds before it.
-    Aged(u64, u64),
+    /// Of these who were answered, and have nothing more.
+    Idle,
+    /// Of the nameless, at a moment, whose time is over.
+    Aged(u64),
     /// Who acts for this player.
     Own(Name),
 }
 
 // Who acts for nobody has so many milliseconds to show a token.
 const PATIENCE: u64 = 20_000;
+
+// Who is being answered then has so many in all: so a page's load is not cut off for its age.
+const PATIENCE_WITH_ANSWER: u64 = 40_000;
 
 // So many nameless connections of one address may be there at most.
 const AN_ADDRESS_MOST: usize = 32;
@@ -64,6 +69,16 @@ fn is_of(place: &Place, name: &Name) -> bool
     }
 }
 
+// So many milliseconds a nameless connection has.
+fn patience(work: Work) -> u64
+    ensures { result ≡ patience work }
+{
+    match work {
+        Work::Answering => PATIENCE_WITH_ANSWER,
+        Work::Idle | Work::Awaited => PATIENCE,
+    }
+}
+
 // Whether a connection is of a class.
 fn is_in(place: &Place, class: &Class) -> bool
     ensures { result ≡ is_in class.now place.now }
@@ -72,8 +87,10 @@ fn is_in(place: &Place, class: &Class) -> bool
         Class::Gone => is_gone(place.role),
         Class::Players => matches!(place.role, Role::Player),
         Class::Nameless => matches!(place.role, Role::Newcomer),
-        Class::Aged(at, age) => {
-            matches!(place.role, Role::Newcomer) && (*at).saturating_sub(place.since) >= *age
+        Class::Idle => matches!(place.role, Role::Newcomer) && matches!(place.work, Work::Idle),
+        Class::Aged(at) => {
+            let time = patience(place.work);
+            matches!(place.role, Role::Newcomer) && (*at).saturating_sub(place.since) >= time
         }
         Class::Own(name) => matches!(place.role, Role::Player) && is_of(place, name),
     }
@@ -109,12 +126,15 @@ fn leave(places: &mut [Place], address: Option<u64>, class: &Class, count: usize
     }
 }
 
-// Nameless connections are to be closed until so many are left: who came first.
+// Nameless connections are to be closed until so many are left: of those that are idle who came first, and where these
+// are too few of the others. So an answer is cut off only where nobody else can make room.
 fn make_room(places: &mut [Place], address: Option<u64>, most: usize)
     ensures { places.new ≡ make_room address most places.old }
 {
     let excess = count(places, address, &Class::Nameless).saturating_sub(most);
-    leave(places, address, &Class::Nameless, excess);
+    leave(places, address, &Class::Idle, excess);
+    let rest = count(places, address, &Class::Nameless).saturating_sub(most);
+    leave(places, address, &Class::Nameless, rest);
 }
 
 // How many are told at most under this number: nameless ones of an address, or those that act for a player.
@@ -203,7 +223,7 @@ fn in_time(places: &mut [Place], at: u64, from: u64)
     ensures { places.new ≡ in_time at from places.old }
 {
     if at.saturating_sub(from) >= PATIENCE {
-        leave(places, None, &Class::Aged(at, PATIENCE), places.len());
+        leave(places, None, &Class::Aged(at), places.len());
     }
 }
 
