@@ -75,6 +75,7 @@ module _ {S : Type 0} where
       still = record { number = refl; stream = refl; browser = refl; waits = refl; visit = same_visit guest };
       paid = refl;
       logins = refl;
+      more = refl;
     };
     lost = refl;
   }
@@ -97,28 +98,16 @@ module _ {S : Type 0} where
   -- a text is said to a browser of which nothing else changed before but what waits
   pub said_from : (text : List ℕ) (old mid new : Guest S) → mid.number ≡ old.number → mid.stream ≡ old.stream →
       mid.browser ≡ old.browser → IsSameVisit old mid → mid.logins_until ≡ old.logins_until → mid.is_lost ≡ old.is_lost →
-      IsSaid text mid new → IsSaid text old new
-  said_from text old mid new number stream browser visit logins lost said = record {
+      mid.has_more ≡ old.has_more → IsSaid text mid new → IsSaid text old new
+  said_from text old mid new number stream browser visit logins lost more said = record {
     number = said.number ∙ number;
     stream = said.stream ∙ stream;
     visit = visit_twice old mid new visit said.visit;
     logins = said.logins ∙ logins;
+    more = said.more ∙ more;
     answer = said.answer;
     says = subst (λ (b : Browser). SaysTo (Text text) b.stage new.browser.stage said.answer) browser said.says;
     lost = said.lost ∙ ap (λ (b : Bool). is_cut said.answer || b) lost;
-  }
-
-  -- and then nothing changes but what of its time is taken
-  pub said_on : (text : List ℕ) (old mid new : Guest S) → IsSaid text old mid → IsStill mid new → new.logins_until ≡ mid.logins_until →
-      new.is_lost ≡ mid.is_lost → IsSaid text old new
-  said_on text old mid new said still logins lost = record {
-    number = still.number ∙ said.number;
-    stream = still.stream ∙ said.stream;
-    visit = visit_twice old mid new said.visit still.visit;
-    logins = logins ∙ said.logins;
-    answer = said.answer;
-    says = subst (λ (b : Browser). SaysTo (Text text) old.browser.stage b.stage said.answer) (sym still.browser) said.says;
-    lost = lost ∙ said.lost;
   }
 
   -- a message that is for it is passed on, where it was noted whether that refuses a login

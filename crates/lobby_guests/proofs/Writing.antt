@@ -26,6 +26,8 @@ module _ {S : Type 0} (contents : S → Option (List ℕ)) (site : Site) where
     few = omega arith;
     written = none_appended (contents guest.stream);
     goes = inl (refl, refl);
+    more = inl refl;
+    keeps = λ so. so;
   }
 
   pub all_unwritten : (guests : List (Guest S)) → AllZip (IsWritten contents site) guests guests

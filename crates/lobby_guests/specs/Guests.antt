@@ -76,6 +76,7 @@ pub record IsAsBefore {S : Type 0} (old new : Guest S) : Type 0 where
   pub still : IsStill old new
   pub paid : new.paid_until ≡ old.paid_until
   pub logins : new.logins_until ≡ old.logins_until
+  pub more : new.has_more ≡ old.has_more
 
 -- And it is to be closed just where it was.
 pub record IsLeftAlone {S : Type 0} (old new : Guest S) : Type 0 where
@@ -181,13 +182,13 @@ owed_after None None until = until
 owed_after None (Some c) until = 0
 owed_after (Some c) number until = until
 
--- Where it is not lost then, nothing waits for it and the desk takes what comes next of it, it is asked for that at
--- once: what is whole of it is not left to a later turn.
+-- Where more may have come, it is not lost then, nothing waits for it and the desk takes what comes next of it, it is
+-- asked for that at once: what is whole of it is not left to a later turn.
 pub record IsServed {S : Type 0} (remaining : S → Option (List ℕ)) (site : Site) (at : ℕ) (old new : Guest S)
     (talk after : Talk) : Type 0 where
   pub attended : IsAttended remaining site at old new talk after
-  pub asks : attended.read.is_lost ≡ false → attended.read.waits.items ≡ [] → MaySpeak talk.desk attended.read.number
-      → IsAsked at attended.read new talk after
+  pub asks : attended.read.has_more ≡ true → attended.read.is_lost ≡ false → attended.read.waits.items ≡ []
+      → MaySpeak talk.desk attended.read.number → IsAsked at attended.read new talk after
   pub waits : length attended.read.waits.items ≢ 0 → (new ≡ attended.read) × (after ≡ talk)
   pub pays : IsPaid remaining (acts_at talk.desk old.number) at old attended.read
   pub owes : new.paid_until ≡ owed_after attended.read.number new.number attended.read.paid_until
@@ -307,10 +308,13 @@ abbrev pub IsAnswered : Desk → Option ℕ → Type 0
 IsAnswered desk None = Unit {0}
 IsAnswered desk (Some c) = (acts_at desk (Some c) ≡ false) ⊎ IsReady desk c
 
--- Its socket is asked what came next, where it may be.
+-- Its socket is asked what came next just where it may be.
 pub record IsHeardNow {S : Type 0} (at : ℕ) (old new : Guest S) (talk after : Talk) : Type 0 where
   pub heard : IsHeard at old new talk after
-  pub asks : old.is_lost ≡ false → old.waits.items ≡ [] → MaySpeak talk.desk old.number → IsAsked at old new talk after
+  pub asks : old.has_more ≡ true → old.is_lost ≡ false → old.waits.items ≡ [] → MaySpeak talk.desk old.number
+      → IsAsked at old new talk after
+  pub none : old.has_more ≡ false → (new ≡ old) × (after ≡ talk)
+  pub lost : old.is_lost ≡ true → (new ≡ old) × (after ≡ talk)
   pub waits : length old.waits.items ≢ 0 → (new ≡ old) × (after ≡ talk)
   pub owes : new.paid_until ≡ owed_after old.number new.number old.paid_until
 
@@ -511,6 +515,7 @@ pub record IsSaid {S : Type 0} (text : List ℕ) (old new : Guest S) : Type 0 wh
   pub stream : new.stream ≡ old.stream
   pub visit : IsSameVisit old new
   pub logins : new.logins_until ≡ old.logins_until
+  pub more : new.has_more ≡ old.has_more
   pub answer : Result (Unit {0}) Unsaid
   pub says : SaysTo (Text text) old.browser.stage new.browser.stage answer
   pub lost : new.is_lost ≡ (is_cut answer || old.is_lost)
@@ -523,6 +528,7 @@ pub record IsPutBehind {S : Type 0} (at : ℕ) (made : Message) (old new : Guest
   pub visit : IsSameVisit old new
   pub paid : new.paid_until ≡ old.paid_until
   pub logins : new.logins_until ≡ old.logins_until
+  pub more : new.has_more ≡ old.has_more
   pub lost : new.is_lost ≡ (nat_lt 1024 (length new.waits.items) || old.is_lost)
   pub one : Waiting
   pub copy : IsCopyOf at made one
@@ -533,6 +539,7 @@ pub record NotesLogin {S : Type 0} (at : ℕ) (text : List ℕ) (old new : Guest
   pub still : IsStill old new
   pub paid : new.paid_until ≡ old.paid_until
   pub logins : new.logins_until ≡ logins_after at text old.logins_until
+  pub more : new.has_more ≡ old.has_more
   pub lost : new.is_lost ≡ (old.is_lost || (refuses_login text && is_beyond at old.logins_until))
 
 -- A message that is for it is said to it, and its time is taken where that is an answer; or the message has to wait.
@@ -637,7 +644,7 @@ pub record AreDelivered {S : Type 0} (at : ℕ) (kept : List KeptAnswer) (told :
       × AreAnswered answer first new) ∥₁
 
 -- What was written stood in front of what waits to be written, at most 16,384 bytes of it, and its connection goes on
--- behind it. Or nothing was, and it may have failed.
+-- behind it: more may be heard then, where it is not over. Or nothing was, and it may have failed.
 pub record IsWritten {S : Type 0} (contents : S → Option (List ℕ)) (site : Site) (old new : Guest S) : Type 0 where
   pub number : new.number ≡ old.number
   pub waits : new.waits ≡ old.waits
@@ -650,6 +657,8 @@ pub record IsWritten {S : Type 0} (contents : S → Option (List ℕ)) (site : S
   pub few : count ≤ 16384
   pub written : Appends (contents old.stream) (contents new.stream) (take count (pending old.browser.stage))
   pub goes : (new.browser ≡ old.browser) × (count ≡ 0) ⊎ Writes site count old.browser.stage new.browser.stage
+  pub more : (new.browser ≡ old.browser) ⊎ IsOver new.browser.stage ⊎ (new.has_more ≡ true)
+  pub keeps : old.has_more ≡ true → new.has_more ≡ true
 
 -- To who acts for nobody nothing is written.
 abbrev pub LeavesStranger : {S : Type 0} → Desk → Guest S → Guest S → Type 0
@@ -679,6 +688,7 @@ pub record IsPinged {S : Type 0} (is_time : Bool) (at : ℕ) (old new : Guest S)
   pub visit : IsSameVisit old new
   pub paid : new.paid_until ≡ old.paid_until
   pub logins : new.logins_until ≡ old.logins_until
+  pub more : new.has_more ≡ old.has_more
   pub said : IsAskedUnless (is_time && is_silent at old.heard_at) old new
 
 -- It is seen whether it acts for a player: its time as a nameless one counts from this moment on then.

@@ -418,22 +418,23 @@ impl<S> Guest<S> {
         coming: &mut Coming,
     ) -> Result<bool, AllocError>
         ensures heard { OnOk result (IsHeard at self.old self.new talk.old talk.new) }
-        ensures asks { OnOk result (self.old.is_lost ≡ false → self.old.waits.items ≡ [] →
+        ensures asks { OnOk result (self.old.has_more ≡ true → self.old.is_lost ≡ false → self.old.waits.items ≡ [] →
             MaySpeak talk.old.desk self.old.number → IsAsked at self.old self.new talk.old talk.new) }
+        ensures none { OnOk result (self.old.has_more ≡ false → (self.new ≡ self.old) × (talk.new ≡ talk.old)) }
+        ensures lost { OnOk result (self.old.is_lost ≡ true → (self.new ≡ self.old) × (talk.new ≡ talk.old)) }
         ensures waits { OnOk result (length self.old.waits.items ≢ 0 →
             (self.new ≡ self.old) × (talk.new ≡ talk.old)) }
         ensures owes { OnOk result
             (self.new.paid_until ≡ owed_after self.old.number self.new.number self.old.paid_until) }
     {
-        if self.is_lost || !self.waits.is_empty() || !self.may_speak(talk) {
+        if !self.has_more || self.is_lost || !self.waits.is_empty() || !self.may_speak(talk) {
             return Ok(false);
         }
         match self.browser.next() {
             None => {
-                // (what waits in its socket may be read now)
-                let may_more = self.has_more && self.can_read;
                 self.has_more = false;
-                Ok(may_more)
+                // (what waits in its socket may be read now)
+                Ok(self.can_read)
             }
             Some(heard) => self.speak(&heard, talk, at, links, coming),
         }
@@ -457,6 +458,7 @@ impl<S> Guest<S> {
         ensures still { IsStill self.old self.new }
         ensures logins { self.new.logins_until ≡ self.old.logins_until }
         ensures lost { self.new.is_lost ≡ self.old.is_lost }
+        ensures more { self.new.has_more ≡ self.old.has_more }
         ensures time { self.new.paid_until ≡ taken_until at self.old.paid_until millis }
     {
         self.paid_until = self.paid_until.max(at).saturating_add(millis);
@@ -657,6 +659,7 @@ impl<S> Guest<S> {
         ensures visit { IsSameVisit self.old self.new }
         ensures paid { self.new.paid_until ≡ self.old.paid_until }
         ensures logins { self.new.logins_until ≡ self.old.logins_until }
+        ensures more { self.new.has_more ≡ self.old.has_more }
     {
         if self.browser.ping().is_err() {
             self.is_lost = true;

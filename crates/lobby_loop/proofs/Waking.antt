@@ -41,6 +41,7 @@ module _ {S : Type 0} where
           };
           paid = next.before.paid ∙ one.before.paid;
           logins = next.before.logins ∙ one.before.logins;
+          more = next.before.more ∙ one.before.more;
         };
         lost = next.lost ∙ one.lost;
       }

@@ -47,6 +47,8 @@ returns g c =
     let heard : IsHeardNow c.args.at read c.hear.new.self talk c.hear.new.talk = record {
       heard = c.in_ok-has_heard.ensures.heard;
       asks = c.in_ok-has_heard.ensures.asks;
+      none = c.in_ok-has_heard.ensures.none;
+      lost = c.in_ok-has_heard.ensures.lost;
       waits = c.in_ok-has_heard.ensures.waits;
       owes = c.in_ok-has_heard.ensures.owes;
     } in

@@ -13,6 +13,7 @@ returns-then-len-gt-WAITING_MOST g c =
       visit = record { key = refl; origin = refl; since = refl; heard = refl };
       paid = refl;
       logins = refl;
+      more = refl;
       lost = sym (ap (λ (b : Bool). b || old.is_lost) (lt-ltb 1024 (length c.push.new.self.items) most));
       one = c.in_ok-one.one;
       copy = c.in_ok-one.ensures;
@@ -30,6 +31,7 @@ returns-else-len-gt-WAITING_MOST g c =
       visit = record { key = refl; origin = refl; since = refl; heard = refl };
       paid = refl;
       logins = refl;
+      more = refl;
       lost = sym (ap (λ (b : Bool). b || old.is_lost) (le-ltb 1024 (length c.push.new.self.items) few));
       one = c.in_ok-one.one;
       copy = c.in_ok-one.ensures;

@@ -15,7 +15,7 @@ returns-clause-told g c =
         text = c.answer.result.now;
         told = told_answer waits one c.remove.new.self.items c.answer.result.now c.args.answer.now first c.requires c.answer.ensures;
         said = said_from c.answer.result.now c.args.self.now _ c.tell.new.self refl refl refl
-            (record { key = refl; origin = refl; since = refl; heard = refl }) refl refl c.tell.ensures.said;
+            (record { key = refl; origin = refl; since = refl; heard = refl }) refl refl refl c.tell.ensures.said;
         paid = c.tell.ensures.paid;
       },
     )

@@ -27,7 +27,7 @@ returns-clause-told g c =
         text = c.as_str.result.now;
         told = told_whole waits one c.remove-one.new.self.items c.as_str.result.now first whole c.as_str.ensures.value;
         said = said_from c.as_str.result.now c.args.self.now _ c.tell.new.self refl refl refl
-            (record { key = refl; origin = refl; since = refl; heard = refl }) refl refl c.tell.ensures.said;
+            (record { key = refl; origin = refl; since = refl; heard = refl }) refl refl refl c.tell.ensures.said;
         paid = c.tell.ensures.paid;
       },
     )
