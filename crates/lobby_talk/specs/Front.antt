@@ -72,13 +72,6 @@ letters bytes =
     ∷ letter_at bytes 10 2 ∷ []
     else 0 ∷ 0 ∷ 0 ∷ 0 ∷ 0 ∷ []
 
--- whether the first frame is a message that begins as an act does, or as what asks for little
-abbrev pub has_act : List ℕ → Bool
-has_act unread = is_act (letters unread)
-
-abbrev pub has_brief : List ℕ → Bool
-has_brief unread = is_brief (letters unread)
-
 -- Whether it asks what is offered, and is no offer of a draw: its text has six letters or more (134 is 128 and 6), and
 -- begins with `offers`.
 abbrev pub asks_offers : List ℕ → Bool
@@ -86,10 +79,17 @@ asks_offers unread =
     nat_le 12 (length unread) && (nat_le 134 (slice_index unread 1)
     && (begins (letters unread) (codes "offer") && letter_at unread 11 3 == 115))
 
+-- whether the first frame is a message that begins as an act does, or as what asks for little
+abbrev pub has_act : List ℕ → Bool
+has_act unread = is_act (letters unread) && not (asks_offers unread)
+
+abbrev pub has_brief : List ℕ → Bool
+has_brief unread = is_brief (letters unread) || asks_offers unread
+
 -- whether it is no whole text message of at most 125 bytes, so that how it begins is not seen
 abbrev pub is_hidden : List ℕ → Bool
 is_hidden unread = nat_le 2 (length unread) && not (is_short_text (slice_index unread 0) (slice_index unread 1))
 
 -- whether an act may stand in front
 abbrev pub may_be_act : List ℕ → Bool
-may_be_act unread = (has_act unread && not (asks_offers unread)) || is_hidden unread
+may_be_act unread = has_act unread || is_hidden unread

@@ -95,21 +95,8 @@ fn letters(unread: &[u8]) -> [u8; 5]
     ]
 }
 
-/// Whether the first frame of what came is a message that begins as an act or a login does.
-pub fn has_act(unread: &[u8]) -> bool
-    ensures { result ≡ has_act unread.now }
-{
-    is_act(&letters(unread))
-}
-
-/// Whether the first frame of what came is a message that begins as what asks for little does.
-pub fn has_brief(unread: &[u8]) -> bool
-    ensures { result ≡ has_brief unread.now }
-{
-    is_brief(&letters(unread))
-}
-
-// Whether it is one that begins with `offers`: it asks what is offered, and is no offer of a draw.
+// Whether the first frame of what came is a message that begins with `offers`: it asks what is offered, and is no offer
+// of a draw.
 fn asks_offers(unread: &[u8]) -> bool
     ensures { result ≡ asks_offers unread.now }
 {
@@ -117,6 +104,20 @@ fn asks_offers(unread: &[u8]) -> bool
         && unread[1] >= SIX_LETTERS
         && letters(unread).starts_with(b"offer")
         && letter_at(unread, 11, 3) == b's'
+}
+
+/// Whether the first frame of what came is a message that begins as an act or a login does.
+pub fn has_act(unread: &[u8]) -> bool
+    ensures { result ≡ has_act unread.now }
+{
+    is_act(&letters(unread)) && !asks_offers(unread)
+}
+
+/// Whether the first frame of what came is a message that begins as what asks for little does.
+pub fn has_brief(unread: &[u8]) -> bool
+    ensures { result ≡ has_brief unread.now }
+{
+    is_brief(&letters(unread)) || asks_offers(unread)
 }
 
 // Whether it is no whole text message of at most 125 bytes, so that how it begins is not seen.
@@ -131,12 +132,12 @@ fn is_hidden(unread: &[u8]) -> bool
 pub fn may_be_act(unread: &[u8]) -> bool
     ensures { result ≡ may_be_act unread.now }
 {
-    has_act(unread) && !asks_offers(unread) || is_hidden(unread)
+    has_act(unread) || is_hidden(unread)
 }
 
 /// Whatever the first word of an act, of a pairing, of what is offered or of a login is: a text of five letters or more
-/// with it begins as `has_act` has it, so nothing of these is put off as a question; and none with another message's
-/// word does. Nor does one that may ask for much begin as `has_brief` has it, and each that asks for little does. There
+/// with it begins as an act does, so nothing of these but `offers` is put off as a question; and none with another
+/// message's word does. Nor does one that may ask for much begin as `has_brief` has it, and each that asks for little does. There
 /// are no other words by which a message asks for something, but `name`, which is the server's own and refused.
 pub fn law_of_fronts()
     ensures hasty { (text : List ℕ) → is_hasty_word (word_of text) ≡ true → 5 ≤ length text →
