@@ -840,7 +840,8 @@ def tried(top):
         os.makedirs(place)
         os.symlink(path_of(name), os.path.join(place, name))
     builds = os.path.join(top, 'tools', 'run-program')
-    put(builds, '#!/bin/sh\n[ "$2" = --build ] && exit\necho NOT PROVED >&2\nprogram=$2; shift 2\n'
+    put(builds, '#!/bin/sh\n[ "$1" = --unproved ] || exit 9\n'
+        '[ "$2" = --build ] && exit\necho NOT PROVED >&2\nprogram=$2; shift 2\n'
         'exec "%s/crates/$program/out/unproved/$program" "$@"\n' % top)
     os.chmod(builds, 0o755)
 
@@ -886,6 +887,8 @@ def the_first_minutes(hall):
         said = club('player', 'dee', '--full-name', 'Dee Moss', '--players', 'sunday/club.players')
         sue.is_so('NOT PROVED' in said.stderr and said.stdout.startswith('http://127.0.0.1:%s/#' % port),
                   'a word beside it is tried too: ' + said.stderr)
+        plain = subprocess.run(['../chess-club', 'player'], cwd=os.path.join(top, 'sunday'), capture_output=True)
+        sue.is_so(plain.returncode == 9, 'one that names no file is not, whatever stands in the current folder')
 
 
 EVENING = (no_dead_buttons, handy_moves, full_names, planned_moves, asked_first, heard_tones, own_marks, taken_men,
