@@ -182,14 +182,18 @@ owed_after None None until = until
 owed_after None (Some c) until = 0
 owed_after (Some c) number until = until
 
--- Where more may have come, it is not lost then, nothing waits for it and the desk takes what comes next of it, it is
--- asked for that at once: what is whole of it is not left to a later turn.
+-- whether nothing waits for it, or an act or a login stands in front of what came of it: that waits for no answer
+abbrev pub is_free : {S : Type 0} → Guest S → Bool
+is_free guest = length guest.waits.items == 0 || has_act (unread guest.browser.stage)
+
+-- Where more may have come, it is not lost then, it is free and the desk takes what comes next of it, it is asked for
+-- that at once: what is whole of it is not left to a later turn.
 pub record IsServed {S : Type 0} (remaining : S → Option (List ℕ)) (site : Site) (at : ℕ) (old new : Guest S)
     (talk after : Talk) : Type 0 where
   pub attended : IsAttended remaining site at old new talk after
-  pub asks : attended.read.has_more ≡ true → attended.read.is_lost ≡ false → attended.read.waits.items ≡ []
+  pub asks : attended.read.has_more ≡ true → attended.read.is_lost ≡ false → is_free attended.read ≡ true
       → MaySpeak talk.desk attended.read.number → IsAsked at attended.read new talk after
-  pub waits : length attended.read.waits.items ≢ 0 → (new ≡ attended.read) × (after ≡ talk)
+  pub waits : is_free attended.read ≡ false → (new ≡ attended.read) × (after ≡ talk)
   pub pays : IsPaid remaining (acts_at talk.desk old.number) at old attended.read
   pub owes : new.paid_until ≡ owed_after attended.read.number new.number attended.read.paid_until
 
@@ -316,18 +320,18 @@ IsAnswered desk (Some c) = is_owed desk c ≡ false
 -- Its socket is asked what came next just where it may be.
 pub record IsHeardNow {S : Type 0} (at : ℕ) (old new : Guest S) (talk after : Talk) : Type 0 where
   pub heard : IsHeard at old new talk after
-  pub asks : old.has_more ≡ true → old.is_lost ≡ false → old.waits.items ≡ [] → MaySpeak talk.desk old.number
+  pub asks : old.has_more ≡ true → old.is_lost ≡ false → is_free old ≡ true → MaySpeak talk.desk old.number
       → IsAsked at old new talk after
   pub none : old.has_more ≡ false → (new ≡ old) × (after ≡ talk)
   pub lost : old.is_lost ≡ true → (new ≡ old) × (after ≡ talk)
-  pub waits : length old.waits.items ≢ 0 → (new ≡ old) × (after ≡ talk)
+  pub waits : is_free old ≡ false → (new ≡ old) × (after ≡ talk)
   pub owes : new.paid_until ≡ owed_after old.number new.number old.paid_until
 
--- Something may have come of one, nothing waits for it, and the desk takes what comes next of it.
+-- Something may have come of one, it is free, and the desk takes what comes next of it.
 pub record MayBeAsked {S : Type 0} (desk : Desk) (guest : Guest S) : Type 0 where
   pub more : guest.has_more ≡ true
   pub stays : guest.is_lost ≡ false
-  pub free : guest.waits.items ≡ []
+  pub free : is_free guest ≡ true
   pub speaks : MaySpeak desk guest.number
 
 -- Where an act stands in front of what came of one, or may, its player has not paid too far ahead, and pays for it just

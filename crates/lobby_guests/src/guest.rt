@@ -4,7 +4,7 @@ ghost use Rattle.std.specs.Prelude.{IsTrue, OnOk};
 ghost use Rattle.lobby_desk.specs.Who.{IsReady, at_table};
 ghost use Rattle.lobby_guests.specs.Guests.{has_time, IsNewGuest, ComesFrom, IsRead, IsStill};
 ghost use Rattle.lobby_guests.specs.Guests.{IsHeardAs, IsHeard, IsAsked, is_untimely, MaySpeak, MayBeAsked, IsSaid};
-ghost use Rattle.lobby_guests.specs.Guests.{IsTold};
+ghost use Rattle.lobby_guests.specs.Guests.{IsTold, is_free};
 ghost use Rattle.lobby_guests.specs.Guests.{NotesLogin, IsPutBehind, IsNextTold, IsCaughtUp, IsSameVisit};
 ghost use Rattle.lobby_guests.specs.Guests.{is_first, IsAnsweredAt};
 ghost use Rattle.lobby_guests.specs.Guests.{AreTold, IsPinged, IsAskedUnless, IsSettled, IsWritten};
@@ -28,7 +28,7 @@ use crate::place::{Place, Role, Work, is_gone, number_of};
 use crate::waiting::{Waiting, is_line};
 use lobby_desk::{Kind, Message};
 use lobby_talk::{
-    Asked, Coming, Counts, Gone, KeepsLinks, KeptAnswer, NOTHING_ASKED, PIECE_ROOM, Talk,
+    Asked, Coming, Counts, Gone, KeepsLinks, KeptAnswer, NOTHING_ASKED, PIECE_ROOM, Talk, has_act,
     is_answer, is_refused_login, say_to_desk, write_piece,
 };
 use lobby_web::{Browser, Heard, Site, Unsaid};
@@ -347,12 +347,18 @@ impl<S> Guest<S> {
         self.browser.unread()
     }
 
-    /// Whether its socket is to be asked what came next: something may have come, nothing waits for it, and the desk
-    /// takes it.
+    // Whether nothing waits for it, or an act or a login stands in front of what came of it: that waits for no answer.
+    fn is_free(&self) -> bool
+        ensures { result ≡ is_free self.now }
+    {
+        self.waits.is_empty() || has_act(self.unread())
+    }
+
+    /// Whether its socket is to be asked what came next: something may have come, it is free, and the desk takes it.
     pub fn may_be_asked(&self, talk: &Talk) -> bool
         ensures { IsTrue result ↔ MayBeAsked talk.now.desk self.now }
     {
-        self.has_more && !self.is_lost && self.waits.is_empty() && self.may_speak(talk)
+        self.has_more && !self.is_lost && self.is_free() && self.may_speak(talk)
     }
 
     // What its socket gave is said to the desk.
@@ -408,7 +414,7 @@ impl<S> Guest<S> {
     }
 
     /// What came next of it is said to the desk: that its socket is open, or a message, once the one before it is
-    /// answered and nothing waits for it. It tells whether there was any, or more may be read that could not be before.
+    /// answered and it is free. It tells whether there was any, or more may be read that could not be before.
     #[tactic(auto, using(crate::proofs::Owing::owed_same))]
     pub(crate) fn hear<K: KeepsLinks>(
         &mut self,
@@ -418,16 +424,15 @@ impl<S> Guest<S> {
         coming: &mut Coming,
     ) -> Result<bool, AllocError>
         ensures heard { OnOk result (IsHeard at self.old self.new talk.old talk.new) }
-        ensures asks { OnOk result (self.old.has_more ≡ true → self.old.is_lost ≡ false → self.old.waits.items ≡ [] →
+        ensures asks { OnOk result (self.old.has_more ≡ true → self.old.is_lost ≡ false → is_free self.old ≡ true →
             MaySpeak talk.old.desk self.old.number → IsAsked at self.old self.new talk.old talk.new) }
         ensures none { OnOk result (self.old.has_more ≡ false → (self.new ≡ self.old) × (talk.new ≡ talk.old)) }
         ensures lost { OnOk result (self.old.is_lost ≡ true → (self.new ≡ self.old) × (talk.new ≡ talk.old)) }
-        ensures waits { OnOk result (length self.old.waits.items ≢ 0 →
-            (self.new ≡ self.old) × (talk.new ≡ talk.old)) }
+        ensures waits { OnOk result (is_free self.old ≡ false → (self.new ≡ self.old) × (talk.new ≡ talk.old)) }
         ensures owes { OnOk result
             (self.new.paid_until ≡ owed_after self.old.number self.new.number self.old.paid_until) }
     {
-        if !self.has_more || self.is_lost || !self.waits.is_empty() || !self.may_speak(talk) {
+        if !self.has_more || self.is_lost || !self.is_free() || !self.may_speak(talk) {
             return Ok(false);
         }
         match self.browser.next() {
