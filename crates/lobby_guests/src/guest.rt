@@ -22,9 +22,11 @@ ghost use Rattle.lobby_web.specs.Browsing.{WantsBytes, unread};
 ghost use Rattle.lobby_talk.specs.Counting.{refuses_login, counted_up, one_if, refuses, refusals_of};
 ghost use Rattle.lobby_guests.specs.Paces.{player_of, payer_of};
 ghost use Rattle.lobby_guests.specs.Place.{role_of, place_of, Yields};
+ghost use Rattle.lobby_guests.specs.Rounds.{IsWrittenBy, MayTake};
 
 use crate::origin::Origin;
 use crate::place::{Place, Role, is_gone, number_of};
+use crate::rounds::Round;
 use crate::waiting::{Waiting, is_line};
 use lobby_desk::{Kind, Message};
 use lobby_talk::{
@@ -233,8 +235,10 @@ impl<S> Guest<S> {
         }
     }
 
-    /// How many bytes wait to be written that its socket may take.
-    pub fn to_write(&self) -> usize {
+    // How many bytes can be written at once that its socket may take.
+    fn to_write(&self) -> usize
+        ensures { MayTake self.now → 0 < result }
+    {
         if self.can_write && !self.is_lost {
             self.browser.out().len()
         } else {
@@ -757,16 +761,19 @@ impl<S: Read + Write> Guest<S> {
         }
     }
 
-    /// Writes what the socket takes at once of what waits to be written, at most 16,384 bytes, if it is its turn. It
-    /// tells whether that was anything.
-    pub fn write_out(&mut self, site: &Site, is_turn: bool) -> bool
-        ensures written { IsWritten S.contents site.now self.old self.new }
-        ensures waits { is_turn ≡ false → self.new ≡ self.old }
+    /// Writes what the socket takes at once of what waits to be written, at most 16,384 bytes: where that is so little
+    /// at once, and else where it is its turn; then it has it. It tells whether that was anything.
+    pub(crate) fn write_out(&mut self, site: &Site, little: usize, round: &mut Round) -> bool
+        ensures { IsWrittenBy little S.contents site.now self.old self.new round.old round.new }
     {
-        if !is_turn || self.to_write() == 0 {
+        if self.to_write() == 0 {
             return false;
         }
-        match write_piece(&mut self.stream, self.browser.out()) {
+        let out = self.browser.out();
+        if !round.lets(self.key, out.len(), little) {
+            return false;
+        }
+        match write_piece(&mut self.stream, out) {
             Gone::Nothing => {
                 self.can_write = false;
                 false

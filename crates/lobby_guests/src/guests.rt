@@ -13,6 +13,7 @@ ghost use Rattle.lobby_guests.specs.Guests.{IsPlayerServed, IsAnswered, KnowsAsk
 ghost use Rattle.lobby_guests.specs.Guests.{has_later};
 ghost use Rattle.lobby_guests.specs.Guests.{Room, full_room, next_name};
 ghost use Rattle.lobby_guests.specs.Rounds.{room_of, others_room, TakesTurn, HasTurn, IsToAsk};
+ghost use Rattle.lobby_guests.specs.Rounds.{is_meant, AreWritten, AreWrittenTo, WritesTo};
 ghost use Rattle.lobby_guests.specs.Guests.{AreAttended, AreTold, AreDelivered, IsWritten, IsLookedAfter, IsClosedIf};
 ghost use Rattle.lobby_guests.specs.Guests.{AreClosed, AreParted, IsCaughtUp, AreAnswered, first_wanted, has_waiting};
 ghost use Rattle.lobby_guests.specs.Guests.{wanted_text};
@@ -450,61 +451,56 @@ pub fn deliver<S>(
     Ok(())
 }
 
-// Whether something is to be written to a browser that acts for a player: at once where that is short, and else where
-// it is its turn; then it has it.
-fn has_players_turn<S>(guest: &Guest<S>, talk: &Talk, round: &mut Round) -> bool
-    ensures { acts_at talk.now.desk guest.now.number ≡ false → result ≡ false }
+// Whether one that acts for a player, or for nobody, is among those to whom is written.
+fn is_meant(of_players: bool, acts: bool) -> bool
+    ensures { result ≡ is_meant of_players acts }
 {
-    if guest.to_write() == 0 || !talk.acts(guest.number()) {
+    if of_players { acts } else { !acts }
+}
+
+// Writes to a browser what it takes, if it is among those: so little at once, and more where it is its turn.
+fn write_one<S: Read + Write>(
+    guest: &mut Guest<S>,
+    of_players: bool,
+    little: usize,
+    site: &Site,
+    talk: &Talk,
+    round: &mut Round,
+) -> bool
+    ensures { WritesTo of_players little S.contents site.now talk.now.desk guest.old guest.new round.old round.new }
+{
+    let is_meant = is_meant(of_players, talk.acts(guest.number()));
+    if !is_meant {
         return false;
     }
-    if guest.to_write() <= LITTLE {
-        return true;
-    }
-    round.take(guest.key())
+    guest.write_out(site, little, round)
 }
 
-// Writes to each that acts for a player what it takes, where that is much to some of them. It tells whether that was
-// anything, or more can be written.
-fn write_players<S: Read + Write>(
+// Writes to each of those who act for players, or for nobody, what it takes, where that is more than so little to so
+// many of them. It tells whether that was anything, or more can be written.
+fn write_to<S: Read + Write>(
     guests: &mut Vec<Guest<S>>,
-    round: &mut Round,
+    of_players: bool,
+    most: usize,
+    little: usize,
     site: &Site,
     talk: &Talk,
+    round: &mut Round,
 ) -> bool
-    ensures written { AllZip (IsWritten S.contents site.now) guests.old.items guests.new.items }
-    ensures strangers { AllZip (LeavesStranger talk.now.desk) guests.old.items guests.new.items }
+    ensures { AreWrittenTo of_players most little S.contents site.now talk.now.desk guests.old.items guests.new.items
+        round.old round.new }
 {
     let mut any = false;
-    round.begin(TOLD_MOST, next_key(guests.as_slice()));
+    let next = next_key(guests.as_slice());
+    round.begin(most, next);
     for guest in guests.iter_mut() {
-        let is_turn = has_players_turn(guest, talk, round);
-        any |= guest.write_out(site, is_turn);
+        any |= write_one(guest, of_players, little, site, talk, round);
     }
     let can_more = round.end();
     any | can_more
 }
 
-// Writes to some of the others what they take. It tells whether that was anything, or more can be written.
-fn write_others<S: Read + Write>(
-    guests: &mut Vec<Guest<S>>,
-    site: &Site,
-    talk: &Talk,
-    round: &mut Round,
-) -> bool
-    ensures { AllZip (IsWritten S.contents site.now) guests.old.items guests.new.items }
-{
-    let mut any = false;
-    round.begin(WRITTEN_MOST, next_key(guests.as_slice()));
-    for guest in guests.iter_mut() {
-        let is_turn = guest.to_write() > 0 && !talk.acts(guest.number()) && round.take(guest.key());
-        any |= guest.write_out(site, is_turn);
-    }
-    let can_more = round.end();
-    any | can_more
-}
-
-// Writes to some of the others, where they do not wait.
+// Writes to some of those who act for nobody, where they do not wait.
 fn write_unless<S: Read + Write>(
     guests: &mut Vec<Guest<S>>,
     waits: bool,
@@ -512,13 +508,14 @@ fn write_unless<S: Read + Write>(
     talk: &Talk,
     round: &mut Round,
 ) -> bool
-    ensures written { AllZip (IsWritten S.contents site.now) guests.old.items guests.new.items }
-    ensures waits { waits ≡ true → guests.new.items ≡ guests.old.items }
+    ensures written { waits ≡ false → AreWrittenTo false 16 0 S.contents site.now talk.now.desk guests.old.items
+        guests.new.items round.old round.new }
+    ensures waits { waits ≡ true → (guests.new.items ≡ guests.old.items) × (round.new ≡ round.old) }
 {
     if waits {
         return false;
     }
-    write_others(guests, site, talk, round)
+    write_to(guests, false, WRITTEN_MOST, 0, site, talk, round)
 }
 
 /// Writes to players what they take, and then to some of the others, but not in a short turn. It tells whether that was
@@ -530,12 +527,22 @@ pub fn write_all<S: Read + Write>(
     site: &Site,
     talk: &Talk,
 ) -> bool
+    ensures turns { AreWritten is_short S.contents site.now talk.now.desk guests.old.items guests.new.items rounds.old
+        rounds.new }
     ensures written { (first : List (Guest S)) × AllZip (IsWritten S.contents site.now) guests.old.items first
         × AllZip (IsWritten S.contents site.now) first guests.new.items }
     ensures short { is_short ≡ true → AllZip (LeavesStranger talk.now.desk) guests.old.items guests.new.items }
     ensures asks { rounds.new.asks ≡ rounds.old.asks }
 {
-    let players = write_players(guests, &mut rounds.told, site, talk);
+    let players = write_to(
+        guests,
+        true,
+        TOLD_MOST,
+        LITTLE,
+        site,
+        talk,
+        &mut rounds.told,
+    );
     let others = write_unless(guests, is_short, site, talk, &mut rounds.written);
     rounds.has_others |= others;
     players

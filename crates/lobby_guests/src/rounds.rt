@@ -3,7 +3,7 @@ ghost use Rattle.std.specs.Prelude.{ℕ, ◌≡◌, ◌<◌, ◌≤◌, ◌+◌,
 ghost use Rattle.std.specs.Prelude.{List, length};
 ghost use Rattle.lobby_guests.specs.Guests.{others_most, is_at, behind, begun, over, begun_asks, has_later};
 ghost use Rattle.lobby_guests.specs.Paces.{paid_by, ActsAt, AreBetween};
-ghost use Rattle.lobby_guests.specs.Rounds.{LetsAct, PaysAct};
+ghost use Rattle.lobby_guests.specs.Rounds.{LetsAct, LetsWrite, PaysAct};
 
 use crate::guests::earlier;
 use std::alloc::{AllocError, Global};
@@ -70,6 +70,13 @@ impl Round {
             self.from = key.saturating_add(1);
         }
         is_turn
+    }
+
+    /// Whether so many bytes are written to this one: so little at once, and more where it is its turn; then it has it.
+    pub fn lets(&mut self, key: usize, count: usize, little: usize) -> bool
+        ensures { LetsWrite result key count little self.old self.new }
+    {
+        count <= little || self.take(key)
     }
 
     /// All had a turn who could have one: it begins anew with the first just where more could have had one. It tells
