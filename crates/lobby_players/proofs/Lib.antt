@@ -1,6 +1,7 @@
 pub mod Words
 pub mod Told
 pub mod EachLine
+pub mod SeenOf
 pub mod Written
 pub mod NewLink
 pub mod Same

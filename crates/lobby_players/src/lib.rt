@@ -3,11 +3,12 @@
 //! stands whether entries are paused, and in a file of its own why all clocks are stopped.
 //!
 //! Modules: `line` has the line of a player, `lines` what stands in front of a line and which names are alike,
-//! `reading` the file, `adding` a player more, `joining` one who walks in, `relinking` a player's new link, `token`
-//! tokens and links, `faults` what is wrong; `file` reads and puts the file on a disk, by one at a time (`Hold`),
-//! `halts` has what an arbiter halts, and what is found that halts games, `pause_file` keeps beside the file whether
-//! entries are paused, `stop_file` why clocks are stopped, `players` has who stands in a file, `putting` is the word
-//! that puts a player into one. `proofs/Told` has what a line tells, `proofs/EachLine` the players of lines,
+//! `reading` the file, `seen` what its lines had so far, `adding` a player more, `joining` one who walks in,
+//! `relinking` a player's new link, `token` tokens and links, `faults` what is wrong; `file` reads and puts the file on
+//! a disk, by one at a time (`Hold`), `halts` has what an arbiter halts, and what is found that halts games,
+//! `pause_file` keeps beside the file whether entries are paused, `stop_file` why clocks are stopped, `players` has who
+//! stands in a file, `putting` is the word that puts a player into one. `proofs/Told` has what a line tells,
+//! `proofs/EachLine` the players of lines, `proofs/SeenOf` what lines had so far, as their players have it,
 //! `proofs/Written` that a file that was written is read back, `proofs/NewLink` whose the new link is,
 //! `proofs/Newcomer` who has walked in, `proofs/Same` which players are the same, and `proofs/TokenText` that a token's
 //! text is one.
@@ -25,6 +26,7 @@ mod players;
 mod putting;
 mod reading;
 mod relinking;
+mod seen;
 mod stop_file;
 mod token;
 

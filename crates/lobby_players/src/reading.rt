@@ -1,13 +1,15 @@
 //! A players' file is read.
-ghost use Rattle.std.specs.Prelude.{◌≡◌, ◌≢◌, ◌==◌, suc, true, [], OnOk, IfOk, IfErr};
+ghost use Rattle.std.specs.Prelude.{◌≡◌, ◌≢◌, ◌==◌, suc, true, [], OnOk, IfOk, IfErr, IfNone};
 ghost use Rattle.lobby_players.specs.File.{IsFileOf, ends_line, entry_of, entries_of};
 ghost use Rattle.lobby_players.specs.Faults.{IsFault, IsRereadFault, TakesLine};
+ghost use Rattle.lobby_players.specs.Seen.{AreSeen};
 ghost use Rattle.lobby_players.specs.File as file;
 ghost use Rattle.std.specs.List.{list_any, count_by};
 
 use crate::faults::{LineFault, PlayersFault, RereadFault};
 use crate::line::player_of;
-use crate::lines::{is_alike, is_silent};
+use crate::lines::is_silent;
+use crate::seen::Seen;
 use lobby_words::Player;
 use player_name::Name;
 use std::alloc::{AllocError, Global};
@@ -22,15 +24,6 @@ pub fn has_name(players: &[Player], name: &Name) -> bool
         .any(|player| player.name.as_str() == name.as_str())
 }
 
-// Whether a player's name is this one, or differs from it in small and capital letters alone.
-fn has_name_alike(players: &[Player], name: &Name) -> bool
-    ensures { result ≡ list_any (λ player. file.is_alike name.now (entry_of player)) players.now }
-{
-    players
-        .iter()
-        .any(|player| is_alike(player.name.as_str(), name.as_str()))
-}
-
 /// Whether a player has the sum.
 pub fn has_sum(players: &[Player], sum: &[u8; 32]) -> bool
     ensures { result ≡ list_any (λ player. file.has_sum sum.now (entry_of player)) players.now }
@@ -40,13 +33,18 @@ pub fn has_sum(players: &[Player], sum: &[u8; 32]) -> bool
         .any(|player| player.sum.as_slice() == sum.as_slice())
 }
 
-// Puts the player of a line behind those before, where it has one. It answers the line's fault.
+// Puts the player of a line behind those before, of whom is seen what they have, where it has one. It answers the line's
+// fault.
 fn take(
     alloc: Global,
     players: &mut Vec<Player>,
+    seen: &mut Seen,
     line: &str,
 ) -> Result<Option<LineFault>, AllocError>
-    ensures { IfOk result (TakesLine (entries_of players.old.items) line.now (entries_of players.new.items)) }
+    requires { AreSeen seen.old.names.keys seen.old.sums.keys players.old.items }
+    ensures taken { IfOk result (TakesLine (entries_of players.old.items) line.now (entries_of players.new.items)) }
+    ensures seen { IfOk result (λ fault. IfNone fault
+        (AreSeen seen.new.names.keys seen.new.sums.keys players.new.items)) }
 {
     if is_silent(line) {
         return Ok(None);
@@ -54,13 +52,15 @@ fn take(
     let Some(player) = player_of(alloc, line)? else {
         return Ok(Some(LineFault::NotPlayer));
     };
-    if has_name(players.as_slice(), &player.name) {
-        return Ok(Some(LineFault::NameTwice));
-    }
-    if has_name_alike(players.as_slice(), &player.name) {
+    let is_name_new = seen.put_name(alloc, &player.name)?;
+    if !is_name_new {
+        if has_name(players.as_slice(), &player.name) {
+            return Ok(Some(LineFault::NameTwice));
+        }
         return Ok(Some(LineFault::NameAlike));
     }
-    if has_sum(players.as_slice(), &player.sum) {
+    let is_sum_new = seen.put_sum(player.sum)?;
+    if !is_sum_new {
         return Ok(Some(LineFault::TokenTwice));
     }
     players.push(player)?;
@@ -87,8 +87,9 @@ pub fn read_text(alloc: Global, text: &str) -> Result<Vec<Player>, PlayersFault>
 {
     let lines = parts(alloc, text, '\n')?;
     let mut players = Vec::new(alloc);
+    let mut seen = Seen::new(alloc);
     for (i, line) in lines.as_slice().iter().enumerate() {
-        if let Some(fault) = take(alloc, &mut players, line)? {
+        if let Some(fault) = take(alloc, &mut players, &mut seen, line)? {
             return Err(PlayersFault::Line(i + 1, fault));
         }
     }

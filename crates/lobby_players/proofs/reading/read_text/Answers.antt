@@ -22,9 +22,12 @@ loop-i-preserved c =
     let below : c.loop-i.i < length c.as_slice-line-items.result.now = omega (arith, c.loop-i-test.true) in
     let d : Bor (List ℕ) = record { ref_ptr = (0, 0); now = [] } in
     let after = entries_of c.take.new.players.items in
-    subst (λ (ls : List (List ℕ)). AreLinesOf ls after) (sym (items_more items i d below))
-    (line_more (take i (map now items)) (get_or items i d).now (entries_of c.loop-i.players.items) after c.loop-i.invariant
-    (rw c.in_default.is at c.in_ok-fault.ensures))
+    (
+      subst (λ (ls : List (List ℕ)). AreLinesOf ls after) (sym (items_more items i d below))
+          (line_more (take i (map now items)) (get_or items i d).now (entries_of c.loop-i.players.items) after c.loop-i.invariant.0
+          (rw c.in_default.is at c.in_ok-fault.ensures.taken)),
+      rw c.in_default.is at c.in_ok-fault.ensures.seen,
+    )
 
 pub returns-in-Some-clause-fault : goal.returns-in-Some-clause-fault
 returns-in-Some-clause-fault c =
@@ -40,6 +43,6 @@ returns-in-Some-clause-fault c =
       lines = sym c.in_ok-lines.ensures ∙ (ap (map now) (sym c.as_slice-line-items.ensures.value) ∙ items_around items i d below);
       number = counted items i below;
       entries = entries_of c.loop-i.players.items;
-      told = c.loop-i.invariant;
-      wrong = rw c.in-Some.is at c.in_ok-fault.ensures;
+      told = c.loop-i.invariant.0;
+      wrong = rw c.in-Some.is at c.in_ok-fault.ensures.taken;
     }
