@@ -2,14 +2,34 @@
 use anyhow::{Result, bail};
 use night_files::{OWNERS_MODE, folder_of, new_file};
 use std::alloc::Global;
-use std::fs::{File, OpenFile, Permissions};
+use std::fs::{File, Metadata, OpenFile, Permissions};
 use std::io::Write;
 use std::os::unix::fs::PermissionsExt;
 use std::rt::Files;
 use std::{fs, io};
 
-/// The bytes of a file that is there. It fails where it is no regular file: to read of a pipe or a device may last
-/// for ever, and in the place of a symbolic link another file would be put, by the lock of another folder.
+// A file of more bytes is not read while players play: they would wait meanwhile.
+const BYTES_MOST: u64 = 1_048_576;
+
+// Fails where a file has more bytes than are read of one while players play.
+fn check_length(file: &str, found: &Metadata) -> Result<()> {
+    if found.len() > BYTES_MOST {
+        bail!("{file} has more than {BYTES_MOST} bytes");
+    }
+    Ok(())
+}
+
+/// Fails where a file is there and has more bytes than are read of one while players play.
+pub fn check_short<R: Files>(rt: &R, file: &str) -> Result<()> {
+    match fs::metadata(rt, file) {
+        Ok(found) => check_length(file, &found),
+        Err(_) => Ok(()),
+    }
+}
+
+/// The bytes of a file that is there. It fails where it has too many, or is no regular file: to read of a pipe or a
+/// device may last for ever, and in the place of a symbolic link another file would be put, by the lock of another
+/// folder.
 pub fn read_regular<R: Files + AllocGlobal>(rt: &R, file: &str) -> Result<Vec<u8>> {
     let found = fs::symlink_metadata(rt, file)?;
     if found.is_symlink() {
@@ -18,11 +38,12 @@ pub fn read_regular<R: Files + AllocGlobal>(rt: &R, file: &str) -> Result<Vec<u8
     if !found.is_file() {
         bail!("{file} is no regular file");
     }
+    check_length(file, &found)?;
     Ok(fs::read(rt, file)?)
 }
 
-/// The bytes of a file; none where there is no file. It fails where it is no regular file, as a symbolic link, and with
-/// other errors of the system.
+/// The bytes of a file; none where there is no file. It fails where it has too many, or is no regular file, as a
+/// symbolic link, and with other errors of the system.
 pub fn read_file<R: Files + AllocGlobal>(rt: &R, file: &str) -> Result<Vec<u8>> {
     match fs::symlink_metadata(rt, file) {
         Err(error) if error.kind() == io::ErrorKind::NotFound => Ok(Vec::new(rt.alloc())),

@@ -34,7 +34,7 @@ pub use adding::{Addition, WithPlayer, added};
 pub use faults::{
     AddFault, JoinFault, LineFault, LinkFault, OrderFault, PlayersFault, RereadFault,
 };
-pub use file::{Hold, put_file, read_file};
+pub use file::{Hold, check_short, put_file, read_file};
 pub use halts::{Finding, Halts, found_line, hand_text};
 pub use joining::{carried_out, newcomer_said};
 pub use pause_file::PauseFile;

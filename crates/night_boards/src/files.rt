@@ -1,5 +1,6 @@
 //! The files that are only read.
 use anyhow::{Context, Result, bail};
+use lobby_players::check_short;
 use night_files::{cut_lines, end_last_line, tell_left_out, torn_fault};
 use night_rounds::{Against, Note, Pairing, note_of, read};
 use std::alloc::{AllocError, Global};
@@ -7,8 +8,9 @@ use std::fs;
 use std::rt::Files;
 use text_parts::parts;
 
-/// The pairings of a file.
+/// The pairings of a file. It fails where that has more bytes than are read while players play: a lobby reads it then.
 pub fn pairings_of<R: Files + AllocGlobal>(rt: &R, file: &str) -> Result<Vec<Pairing>> {
+    check_short(rt, file).context(format_args!("reading {file}"))?;
     let text = fs::read(rt, file).context(format_args!("reading {file}"))?;
     read(rt.alloc(), text.as_slice()).context(file)
 }

@@ -1,5 +1,6 @@
 //! The file of a round's decisions.
 use anyhow::{Context, Result, bail};
+use lobby_players::check_short;
 use night_files::{
     AppendedFile, DiskFile, RecordFile, TornFile, cut_lines, is_whole, tell_left_out, torn_fault,
 };
@@ -103,6 +104,7 @@ fn put_line<R: Files<File = File> + AllocGlobal + Eprint>(
     pairings: &[Pairing],
     line: &[u8],
 ) -> Result<()> {
+    check_short(rt, path)?;
     let mut file = DiskFile::open(rt, path)?;
     let mut bytes = Vec::new(rt.alloc());
     file.read_all(&mut bytes)?;
@@ -118,7 +120,8 @@ fn put_line<R: Files<File = File> + AllocGlobal + Eprint>(
 
 /// Puts the line of a decision about a board of these pairings behind the others of a file, which is made where there
 /// is none. At `Ok` it is on the disk. It fails where another program has the file, where it has a line that is no
-/// decision's, and then it is as it was; and where the system refuses a call.
+/// decision's, or more bytes than are read while players play, and then it is as it was; and where the system refuses
+/// a call.
 pub fn put_decision<R: Files<File = File> + AllocGlobal + Eprint>(
     rt: &R,
     path: &str,
