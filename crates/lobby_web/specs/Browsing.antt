@@ -19,12 +19,13 @@ use Rattle.lobby_web.specs.declared.heading.Heading.{Heading}
 use Rattle.lobby_web.specs.Heading.{heading_of, is_read}
 use Rattle.lobby_web.specs.Talking.{IsFresh, Keeps, TakesIn, Hears, Says, may_say}
 
--- heads of at most 16,384 bytes, and requests without a body
+-- heads of at most 16,384 bytes, and requests without a body, none answered while something of an answer is to be
+-- written
 abbrev pub web_config : Config
 web_config = record {
   limits = record { max_head_len = 16384; max_extensions_len = 0; max_trailers_len = 1024 };
   max_body_len = 0;
-  max_pending = 65536;
+  max_pending = 0;
   read_size = 16384;
 }
 

@@ -156,8 +156,9 @@ fn lightened(
 }
 
 impl Browser {
-    /// A connection that begins: by HTTP, with heads of at most 16,384 bytes, and requests without a body. The keys
-    /// are for the names of headers, which the peer chooses.
+    /// A connection that begins: by HTTP, with heads of at most 16,384 bytes, and requests without a body, of which the
+    /// next one is answered once the answer before it is written. The keys are for the names of headers, which the peer
+    /// chooses.
     pub fn new(alloc: Global, keys: RandomState) -> Browser
         ensures { IsNew result.stage }
     {
@@ -168,7 +169,7 @@ impl Browser {
                 max_trailers_len: 1_024,
             },
             max_body_len: 0,
-            max_pending: 65_536,
+            max_pending: 0,
             read_size: MOST_AT_ONCE,
         };
         Browser {
