@@ -11,34 +11,34 @@ use std::{fs, io};
 // A file of more bytes is not read while players play: they would wait meanwhile.
 const BYTES_MOST: u64 = 1_048_576;
 
-// Fails where a file has more bytes than are read of one while players play.
-fn check_length(file: &str, found: &Metadata) -> Result<()> {
+// Fails where a file is no regular file, since to read of a pipe or a device may last for ever, or has more bytes than
+// are read of one while players play.
+fn check_found(file: &str, found: &Metadata) -> Result<()> {
+    if !found.is_file() {
+        bail!("{file} is no regular file");
+    }
     if found.len() > BYTES_MOST {
         bail!("{file} has more than {BYTES_MOST} bytes");
     }
     Ok(())
 }
 
-/// Fails where a file is there and has more bytes than are read of one while players play.
+/// Fails where a file is there and is no regular file, or has more bytes than are read of one while players play.
 pub fn check_short<R: Files>(rt: &R, file: &str) -> Result<()> {
     match fs::metadata(rt, file) {
-        Ok(found) => check_length(file, &found),
+        Ok(found) => check_found(file, &found),
         Err(_) => Ok(()),
     }
 }
 
-/// The bytes of a file that is there. It fails where it has too many, or is no regular file: to read of a pipe or a
-/// device may last for ever, and in the place of a symbolic link another file would be put, by the lock of another
-/// folder.
+/// The bytes of a file that is there. It fails where it has too many, or is no regular file: in the place of a symbolic
+/// link another file would be put, by the lock of another folder.
 pub fn read_regular<R: Files + AllocGlobal>(rt: &R, file: &str) -> Result<Vec<u8>> {
     let found = fs::symlink_metadata(rt, file)?;
     if found.is_symlink() {
         bail!("{file} is a symbolic link: name the file itself");
     }
-    if !found.is_file() {
-        bail!("{file} is no regular file");
-    }
-    check_length(file, &found)?;
+    check_found(file, &found)?;
     Ok(fs::read(rt, file)?)
 }
 
