@@ -651,7 +651,7 @@ pub record AreDelivered {S : Type 0} (at : ℕ) (kept : List KeptAnswer) (told :
   pub first : List (Guest S)
   pub are_told : AllZip (AreTold at made) old first
   pub caught_up : AllZip (IsCaughtUp at) first new
-  pub answers : ∥ ((answer : Option KeptAnswer) × Replays (wanted_text first) replay after answer
+  pub answers : ∥ ((answer : Option KeptAnswer) × Replays kept (wanted_text first) replay after answer
       × AreAnswered answer first new) ∥₁
 
 -- What was written stood in front of what waits to be written, at most 16,384 bytes of it, and its connection goes on

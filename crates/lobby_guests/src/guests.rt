@@ -402,7 +402,7 @@ fn answer_waiting<S>(
 ) -> Result<(), AllocError>
     ensures up { OnOk result (AllZip (IsCaughtUp counts.old.at) guests.old.items guests.new.items) }
     ensures answers { OnOk result (∥ ((answer : Option KeptAnswerValue)
-        × Replays (wanted_text guests.old.items) talk.old.replay talk.new.replay answer
+        × Replays talk.old.kept.answers.items (wanted_text guests.old.items) talk.old.replay talk.new.replay answer
         × AreAnswered answer guests.old.items guests.new.items) ∥₁) }
     ensures rest { OnOk result (IsTalkAsBefore talk.old talk.new) }
     ensures counts { OnOk result (CountsNoLogin counts.old counts.new) }

@@ -2,6 +2,7 @@
 ghost use Rattle.std.specs.Prelude.{◌≡◌, ◌≤◌, ◌+◌, IfSome, [], IfOk, OnOk};
 ghost use Rattle.std.specs.String.{string_bytes};
 ghost use Rattle.lobby_talk.specs.Keeping.{size_of_all, kept_most, shown, HasKept};
+ghost use Rattle.lobby_talk.specs.Replaying.{IsCopied};
 
 use crate::kept_answer::KeptAnswer;
 use std::alloc::{AllocError, Global};
@@ -81,7 +82,7 @@ impl KeptAnswers {
 
     /// The answer that was made of this PGN, if it is kept, in memory of its own.
     pub fn copy_of(&self, game: u32, pgn: &str) -> Result<Option<KeptAnswer>, AllocError>
-        ensures { IfOk result (λ found. IfSome found (λ answer. string_bytes answer.pgn ≡ pgn.now)) }
+        ensures { IfOk result (λ found. IfSome found (IsCopied self.now.answers.items pgn.now)) }
     {
         let Some(answer) = self.find(pgn) else {
             return Ok(None);

@@ -24,7 +24,8 @@ impl KeptAnswer {
     /// The answer that was made of this PGN of a game.
     pub fn new(game: u32, pgn: String, answer: String) -> KeptAnswer
         requires { ∥ IsOfLine (string_bytes pgn) (string_bytes answer) ∥₁ }
-        ensures { result.pgn ≡ pgn }
+        ensures pgn { result.pgn ≡ pgn }
+        ensures answer { result.answer ≡ answer }
     {
         KeptAnswer { game, pgn, answer }
     }

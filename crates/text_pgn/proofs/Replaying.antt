@@ -1,5 +1,5 @@
 -- A replay, word by word.
-use Rattle.std.proofs.Common.{ℕ, ◌≡◌, ◌≤◌, ◌<◌, ◌+◌, List, [], ◌∷◌, ◌++◌, length, get_or, map, drop, refl, sym, ap, ◌∙◌}
+use Rattle.std.proofs.Common.{ℕ, ◌≡◌, ◌≤◌, ◌<◌, ◌+◌, List, [], ◌∷◌, ◌++◌, length, get_or, map, take, drop, suc, refl, sym, ap, ◌∙◌}
 use Rattle.std.proofs.Common.{subst, append_assoc, length-append, arith, codes, decimal}
 use Rattle.std.specs.String.{string_bytes}
 use Rattle.std.proofs.lemmas.List.{drop_more, drop_all, get_or-map, length-map}
@@ -9,7 +9,7 @@ use Rattle.chess_board.specs.Next.{next}
 use Rattle.chess_board.proofs.LineLemmas.{position_after-push}
 use Rattle.text_pgn.specs.Game.{Plays, ArePlayed, StartsAt, TellsNone, fen_in, lines_of, words_in}
 use Rattle.text_pgn.specs.Answer.{head, row, PutsRow, PutsRows, IsLineAnswer}
-use Rattle.text_pgn.specs.Replaying.{IsUnderWay, IsWhole, Runs, words_left}
+use Rattle.text_pgn.specs.Replaying.{IsUnderWay, IsWhole, Runs, StopsWithin, words_left}
 use Rattle.text_pgn.specs.declared.replay.Replay.{Replay}
 use Rattle.text_pgn.proofs.Played.{runs_more, runs_end, runs_one, runs_stop}
 use Rattle.text_pgn.proofs.Spelled.{rows_none, rows_put}
@@ -67,7 +67,47 @@ goes_on game pgn old new word m cut same at below plays one board put u = record
       (string_bytes old.text) (string_bytes new.text) u.rows put u.at board (omega (arith, at, u.count)) refl;
 }
 
+-- what the words from one on name goes on from the position that its move brings
+played_behind : (p after : Position) (word : List ℕ) (left : List (List ℕ)) (m : Move) (n : ℕ) (moves : List Move) →
+    ((other : Move) → Plays p word other → other ≡ m) → after ≡ next p m →
+    ArePlayed p (take (suc n) (word ∷ left)) moves → (rest : List Move) × ArePlayed after (take n left) rest
+played_behind p after word left m n [] one board played = absurd played
+played_behind p after word left m n (first ∷ rest) one board played =
+    let same = one first played.0 in (
+      rest,
+      subst (λ (q : Position). ArePlayed q (take n left) rest) (ap (next p) same ∙ sym board) played.1,
+    )
+
+pub forth : (old new : Replay) (word : List ℕ) (m : Move) → words_left old ≡ word ∷ words_left new →
+    ((other : Move) → Plays old.board word other → other ≡ m) → new.board ≡ next old.board m → (n : ℕ) →
+    (moves : List Move) → ArePlayed old.board (take (suc n) (words_left old)) moves →
+    (rest : List Move) × ArePlayed new.board (take n (words_left new)) rest
+forth old new word m cut one board n moves played =
+    played_behind old.board new.board word (words_left new) m n moves one board
+    (subst (λ (l : List (List ℕ)). ArePlayed old.board (take (suc n) l) moves) cut played)
+
 -- a word names no move
+stuck_at : (p : Position) (word : List ℕ) (left : List (List ℕ)) → ((m : Move) → ¬ Plays p word m) → (n : ℕ) →
+    (moves : List Move) → ¬ ArePlayed p (take (suc n) (word ∷ left)) moves
+stuck_at p word left none n [] played = played
+stuck_at p word left none n (m ∷ ms) played = none m played.0
+
+pub stuck : (old : Replay) (word : List ℕ) (left : List (List ℕ)) → words_left old ≡ word ∷ left →
+    ((m : Move) → ¬ Plays old.board word m) → (n : ℕ) → StopsWithin (suc n) old
+stuck old word left cut none n = λ moves played.
+    stuck_at old.board word left none n moves
+    (subst (λ (l : List (List ℕ)). ArePlayed old.board (take (suc n) l) moves) cut played)
+
+-- where so many words are played, what may be played is stuck further on
+pub stuck_behind : (old now : Replay) (most done n : ℕ) → most ≡ suc n + done →
+    ((k : ℕ) → (moves : List Move) → ArePlayed old.board (take (k + done) (words_left old)) moves →
+    (rest : List Move) × ArePlayed now.board (take k (words_left now)) rest) →
+    StopsWithin (suc n) now → StopsWithin most old
+stuck_behind old now most done n is forth stops = λ moves played.
+    let behind = forth (suc n) moves
+    (subst (λ (k : ℕ). ArePlayed old.board (take k (words_left old)) moves) is played) in
+    stops behind.0 behind.1
+
 pub stops : (game : ℕ) (pgn : List ℕ) (old : Replay) (word : List ℕ) (rest : List (List ℕ)) →
     words_left old ≡ word ∷ rest →
     ((m : Move) → ¬ Plays old.board word m) → IsUnderWay game pgn old → TellsNone pgn

@@ -56,6 +56,10 @@ pub record TellsGame (text : List ℕ) (start : Position) (moves : List Move) : 
   pub begun : StartsAt (fen_in (lines_of text)) start
   pub played : ArePlayed start (words_in text) moves
 
+-- it has no valid start
+abbrev pub NoStart : List ℕ → Type 0
+NoStart text = (p : Position) → ¬ StartsAt (fen_in (lines_of text)) p
+
 -- it tells no game
 abbrev pub TellsNone : List ℕ → Type 0
 TellsNone text = (start : Position) → (moves : List Move) → ¬ TellsGame text start moves

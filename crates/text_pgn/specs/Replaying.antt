@@ -1,5 +1,5 @@
 -- A replay of a game, a part at a time.
-use Rattle.std.specs.Prelude.{ℕ, ◌≡◌, ◌≤◌, ◌<◌, ◌+◌, ◌-◌, List, ◌++◌, length, map, drop}
+use Rattle.std.specs.Prelude.{ℕ, ◌≡◌, ◌≤◌, ◌<◌, ◌+◌, ◌-◌, List, ◌++◌, length, map, take, drop, suc}
 use Rattle.std.specs.String.{string_bytes}
 use Rattle.chess_board.specs.declared.moves.Move.{Move}
 use Rattle.chess_board.specs.Position.{Position}
@@ -47,11 +47,17 @@ pub record IsUnderWay (game : ℕ) (pgn : List ℕ) (replay : Replay) : Type 0 w
 abbrev pub IsUnplayed : Replay → Type 0
 IsUnplayed replay = replay.at ≡ 0
 
--- one word is played
+-- The next words, so many at most, name no moves from here on: one of them names none.
+abbrev pub StopsWithin : ℕ → Replay → Type 0
+StopsWithin most replay = (moves : List Move) → ¬ ArePlayed replay.board (take most (words_left replay)) moves
+
+-- One word is played: what words from it on name goes on, behind it, from the position that its move brings.
 pub record Goes (old new : Replay) : Type 0 where
   pub goes : (game : ℕ) → (pgn : List ℕ) → IsUnderWay game pgn old → IsUnderWay game pgn new
   pub words : new.words ≡ old.words
   pub at : new.at ≡ old.at + 1
+  pub forth : (n : ℕ) → (moves : List Move) → ArePlayed old.board (take (suc n) (words_left old)) moves →
+      (rest : List Move) × ArePlayed new.board (take n (words_left new)) rest
 
 -- the answer to `line G` of the game that a PGN tells
 pub record IsWhole (game : ℕ) (pgn text : List ℕ) : Type 0 where
@@ -59,9 +65,9 @@ pub record IsWhole (game : ℕ) (pgn text : List ℕ) : Type 0 where
   pub answers : (start : Position) → (moves : List Move) → TellsGame pgn start moves →
       IsLineAnswer game start moves text
 
--- What a part brings: where more words are left than it may play, it has played just so many; else the whole answer, or
--- that the PGN tells no game.
+-- What a part brings: where more words are left than it may play, it has played just so many; else the whole answer; or
+-- that the PGN tells no game, where one of the words that it may play names no move.
 abbrev pub IsPart : ℕ → List ℕ → ℕ → Replay → Part → Type 0
 IsPart game pgn most old (More new) = IsUnderWay game pgn new × (left new + most ≡ left old) × (0 < left new)
 IsPart game pgn most old (Whole text) = (left old ≤ most) × IsWhole game pgn (string_bytes text)
-IsPart game pgn most old NoGame = TellsNone pgn
+IsPart game pgn most old NoGame = TellsNone pgn × StopsWithin most old

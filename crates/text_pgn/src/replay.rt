@@ -1,11 +1,11 @@
 //! A replay of a game, by which `line G` is answered: a part at a time.
-ghost use Rattle.std.specs.Prelude.{ℕ, ◌≡◌, ◌+◌, ◌<◌, List, length, map, IfOk, OnOk, IfSome, IfNone};
+ghost use Rattle.std.specs.Prelude.{ℕ, suc, ◌≡◌, ◌+◌, ◌<◌, List, length, map, IfOk, OnOk, IfSome, IfNone};
 ghost use Rattle.std.specs.Bool.{OnTrue, OnFalse};
 ghost use Rattle.std.specs.String.{string_bytes};
 ghost use Rattle.chess_board.specs.declared.moves.Move.{Move};
 ghost use Rattle.chess_board.specs.Position.{Position};
-ghost use Rattle.text_pgn.specs.Game.{Plays, TellsNone};
-ghost use Rattle.text_pgn.specs.Replaying.{left, IsUnderWay, IsUnplayed, Goes, IsPart};
+ghost use Rattle.text_pgn.specs.Game.{Plays, NoStart, TellsNone};
+ghost use Rattle.text_pgn.specs.Replaying.{left, IsUnderWay, IsUnplayed, Goes, StopsWithin, IsPart};
 
 use crate::game_words::{start_of, words_of};
 use crate::rows::{head_text, push_row};
@@ -65,7 +65,7 @@ impl Replay {
     pub fn begin(alloc: Global, game: u32, pgn: &str) -> Result<Option<Replay>, AllocError>
         ensures some { IfOk result (λ begun. IfSome begun (IsUnderWay game pgn.now)) }
         ensures unplayed { IfOk result (λ begun. IfSome begun IsUnplayed) }
-        ensures none { IfOk result (λ begun. IfNone begun (TellsNone pgn.now)) }
+        ensures none { IfOk result (λ begun. IfNone begun (NoStart pgn.now)) }
     {
         let lines = parts(alloc, pgn, '\n')?;
         let Some(board) = start_of(lines.as_slice()) else {
@@ -95,6 +95,7 @@ impl Replay {
         ensures goes { IfOk result (λ moved. OnTrue moved (Goes self.old self.new)) }
         ensures stops { IfOk result (λ moved. OnFalse moved ((game : ℕ) (pgn : List ℕ) →
             IsUnderWay game pgn self.old → TellsNone pgn)) }
+        ensures stuck { IfOk result (λ moved. OnFalse moved ((n : ℕ) → StopsWithin (suc n) self.old)) }
     {
         let Some(mv) = named(&self.board, self.words[self.at].as_str()) else {
             return Ok(false);

@@ -14,29 +14,31 @@ returns-in-None-clause-up g c = all_caught_none c.args.counts.now.at c.args.gues
 
 pub returns-in-None-clause-answers : goal.returns-in-None-clause-answers
 returns-in-None-clause-answers g c =
+    let kept = c.args.talk.now.kept.answers.items in
     let old = c.args.talk.now.replay in
     let now = c.replay_on.new.self.replay in
     let next = c.wanted_text.ensures ∙ ap wanted_text c.as_slice.ensures.value in
     ∥∥₁_map c.in_ok-replay_on.ensures.replays
     (λ goes. (
       c.in_ok-replay_on.field-0,
-      subst (λ (n : Option (List ℕ)). Replays n old now c.in_ok-replay_on.field-0) next goes,
+      subst (λ (n : Option (List ℕ)). Replays kept n old now c.in_ok-replay_on.field-0) next goes,
       subst (λ (answer : Option KeptAnswer). AreAnswered answer c.args.guests.now.items c.args.guests.now.items) (sym c.in-None.is) refl,
     ))
 
 pub returns-in-Some-clause-answers : goal.returns-in-Some-clause-answers
 returns-in-Some-clause-answers g c =
+    let kept = c.args.talk.now.kept.answers.items in
     let old = c.args.talk.now.replay in
     let now = c.replay_on.new.self.replay in
     let next = c.wanted_text.ensures ∙ ap wanted_text c.as_slice.ensures.value in
     let first = wanted_text c.args.guests.now.items in
     on_ok_weaker c.keep.result (λ same.
-    subst (λ (r : Option UnderWay). ∥ ((answer : Option KeptAnswer) × Replays first old r answer
+    subst (λ (r : Option UnderWay). ∥ ((answer : Option KeptAnswer) × Replays kept first old r answer
     × AreAnswered answer c.args.guests.now.items c.answer_all.new.guests.items) ∥₁) (sym same)
     (∥∥₁_map c.in_ok-replay_on.ensures.replays
     (λ goes. (
       c.in_ok-replay_on.field-0,
-      subst (λ (n : Option (List ℕ)). Replays n old now c.in_ok-replay_on.field-0) next goes,
+      subst (λ (n : Option (List ℕ)). Replays kept n old now c.in_ok-replay_on.field-0) next goes,
       subst (λ (answer : Option KeptAnswer). AreAnswered answer c.args.guests.now.items c.answer_all.new.guests.items)
           (sym c.in-Some.is) c.answer_all.ensures.answered,
     ))))

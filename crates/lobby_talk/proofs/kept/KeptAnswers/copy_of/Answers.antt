@@ -5,6 +5,11 @@ use Rattle.lobby_talk.specs.Keeping.{HasKept}
 use Rattle.lobby_talk.proofs.Keeping.{kept_of_line}
 use Rattle.lobby_talk.proofs.kept.KeptAnswers.copy_of.Goals as goal
 
+copied : (kept : List KeptAnswer) (text pgn answer found : List ℕ) → pgn ≡ text → answer ≡ found → HasKept kept text found →
+    HasKept kept pgn answer
+copied kept text pgn answer found same is has =
+    subst (λ (l : List ℕ). HasKept kept l answer) (sym same) (subst (λ (l : List ℕ). HasKept kept text l) (sym is) has)
+
 pub new-requires : goal.new-requires
 new-requires c =
     let kept = c.args.self.now.answers.items in

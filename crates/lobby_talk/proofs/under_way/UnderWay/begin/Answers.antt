@@ -1,9 +1,18 @@
 -- What begins is under way, of the lines behind the first.
 use Rattle.std.proofs.Common.{List, ℕ, subst, sym}
+use Rattle.std.specs.String.{string_bytes}
+use Rattle.text_pgn.specs.Game.{NoStart}
 use Rattle.text_pgn.specs.Replaying.{IsUnderWay}
 use Rattle.lobby_talk.specs.Making.{lines_behind}
 use Rattle.lobby_talk.specs.Replays.{IsReplayOf}
+use Rattle.lobby_talk.proofs.Replaying.{no_game}
 use Rattle.lobby_talk.proofs.under_way.UnderWay.begin.Goals as goal
+
+pub lost-requires : goal.lost-requires
+lost-requires c =
+    no_game (lines_behind (string_bytes c.in_ok-pgn.pgn))
+    (subst (λ (l : List ℕ). NoStart (lines_behind l)) (sym c.in_ok-pgn.ensures.ok)
+    (subst NoStart c.behind.ensures (rw c.in-None.is at c.in_ok-begin.ensures.none)))
 
 pub invariant_of-result : goal.invariant_of-result
 invariant_of-result c =

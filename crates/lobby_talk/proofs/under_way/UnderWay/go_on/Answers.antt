@@ -27,7 +27,7 @@ pub lost-requires : goal.lost-requires
 lost-requires c =
     let text = string_bytes c.args.self.pgn in
     λ start moves tells. not_there c.args.self.under_way (λ u.
-    (rw c.in-NoGame.is at c.in_ok-replay.ensures c.args.self.game (lines_behind text) u.under_way) start moves tells)
+    (rw c.in-NoGame.is at c.in_ok-replay.ensures c.args.self.game (lines_behind text) u.under_way).0 start moves tells)
 
 pub returns-in-More : goal.returns-in-More
 returns-in-More c =
@@ -39,12 +39,12 @@ pub returns-in-Whole : goal.returns-in-Whole
 returns-in-Whole c =
     let text = string_bytes c.args.self.pgn in
     ∥∥₁_map c.args.self.under_way (λ u.
-    (ap string_bytes c.new.ensures, inl (rw c.in-Whole.is at c.in_ok-replay.ensures c.args.self.game (lines_behind text) u.under_way).0))
+    (ap string_bytes c.new.ensures.pgn, inl (rw c.in-Whole.is at c.in_ok-replay.ensures c.args.self.game (lines_behind text) u.under_way).0))
 
 pub returns-in_ok-lost-in-NoGame : goal.returns-in_ok-lost-in-NoGame
 returns-in_ok-lost-in-NoGame c =
     let text = string_bytes c.args.self.pgn in
     ∥∥₁_map c.args.self.under_way (λ u. (
       ap string_bytes c.in_ok-lost-in-NoGame.ensures,
-      inr (rw c.in-NoGame.is at c.in_ok-replay.ensures c.args.self.game (lines_behind text) u.under_way),
+      inr (rw c.in-NoGame.is at c.in_ok-replay.ensures c.args.self.game (lines_behind text) u.under_way).1,
     ))
