@@ -1,5 +1,5 @@
 -- What is kept, by what each answer and all of them are.
-use Rattle.std.proofs.Common.{◌≡◌, ◌<◌, ◌+◌, ℕ, zero, suc, List, [], ◌∷◌, length, get_or, inl, inr, refl, sym, subst, arith}
+use Rattle.std.proofs.Common.{◌≡◌, ◌<◌, ◌+◌, ℕ, zero, suc, List, [], ◌∷◌, ◌++◌, length, get_or, inl, inr, refl, sym, subst, arith}
 use Rattle.std.specs.String.{string_bytes}
 use Rattle.lobby_desk.specs.declared.telling.Kind.{Kind}
 use Rattle.lobby_desk.specs.declared.telling.Kind.TheVariants.{Whole, Line}
@@ -24,6 +24,12 @@ has_kept (first ∷ answers) zero one text new below is pgn answer =
     inl (subst (λ (k : KeptAnswer). (string_bytes k.pgn ≡ text) × (string_bytes k.answer ≡ new)) is (pgn, answer))
 has_kept (first ∷ answers) (suc i) one text new below is pgn answer =
     inr (has_kept answers i one text new (omega (arith, below)) is pgn answer)
+
+-- what stands behind others is among them
+pub has_last : (answers : List KeptAnswer) (one : KeptAnswer) →
+    HasKept (answers ++ one ∷ []) (string_bytes one.pgn) (string_bytes one.answer)
+has_last [] one = inl (refl, refl)
+has_last (first ∷ answers) one = inr (has_last answers one)
 
 pub kept_of_line : (answers : List KeptAnswer) (text new : List ℕ) → HasKept answers text new → ∥ IsOfLine text new ∥₁
 kept_of_line [] text new none_such = absurd none_such

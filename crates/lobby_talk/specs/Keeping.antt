@@ -38,6 +38,10 @@ HasKept [] text answer = ⊥
 HasKept (one ∷ ones) text answer =
     (string_bytes one.pgn ≡ text) × (string_bytes one.answer ≡ answer) ⊎ HasKept ones text answer
 
+-- One that was made is among them, where it alone does not take more bytes than are kept.
+abbrev pub IsPut : KeptAnswer → List KeptAnswer → Type 0
+IsPut one answers = size_of one ≤ kept_most → HasKept answers (string_bytes one.pgn) (string_bytes one.answer)
+
 -- No answer to `line G` is made but by these.
 abbrev pub IsOfKept : List KeptAnswer → Kind → List ℕ → Kind → List ℕ → Type 0
 IsOfKept kept Line text Line new = Unit {0}

@@ -1,7 +1,7 @@
 //! The answers to `line G` that were made, as long as the server tells the same PGN: each is made once.
 ghost use Rattle.std.specs.Prelude.{◌≡◌, ◌≤◌, ◌+◌, IfSome, [], IfOk, OnOk};
 ghost use Rattle.std.specs.String.{string_bytes};
-ghost use Rattle.lobby_talk.specs.Keeping.{size_of_all, kept_most, shown, HasKept};
+ghost use Rattle.lobby_talk.specs.Keeping.{size_of_all, kept_most, shown, HasKept, IsPut};
 ghost use Rattle.lobby_talk.specs.Replaying.{IsCopied};
 
 use crate::kept_answer::KeptAnswer;
@@ -42,7 +42,8 @@ fn let_go_beyond(answers: &mut Vec<KeptAnswer>, most: usize)
 // Puts one of a game in the place of the one that there was of it, behind the others, of which the oldest go where
 // there are too many bytes. One that alone has too many is not kept.
 fn put(answers: &mut Vec<KeptAnswer>, one: KeptAnswer) -> Result<(), AllocError>
-    ensures { size_of_all answers.new.items ≤ kept_most }
+    ensures within { size_of_all answers.new.items ≤ kept_most }
+    ensures keeps { OnOk result (IsPut one answers.new.items) }
 {
     let game = one.game;
     answers.retain(|kept| kept.game != game);
@@ -94,7 +95,9 @@ impl KeptAnswers {
 
     /// Keeps an answer, in the place of the one that was kept of its game. The oldest go where there are too many
     /// bytes.
-    pub fn keep(&mut self, one: KeptAnswer) -> Result<(), AllocError> {
+    pub fn keep(&mut self, one: KeptAnswer) -> Result<(), AllocError>
+        ensures { OnOk result (IsPut one self.new.answers.items) }
+    {
         put(&mut self.answers, one)
     }
 }
