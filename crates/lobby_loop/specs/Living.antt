@@ -326,3 +326,10 @@ IsLobbyLife {S} remaining contents players is_paused (Enrolled later ∷ past) n
     (before : Hall S) × IsLobbyLife remaining contents players is_paused past before × Renews later before now
 IsLobbyLife {S} remaining contents players is_paused (Noticed finding ∷ past) now =
     (before : Hall S) × IsLobbyLife remaining contents players is_paused past before × Finds finding before now
+
+-- that the players are others, and what is found that halts games, the newest first
+abbrev pub noticed_in : List Passing → List DeskInput
+noticed_in [] = []
+noticed_in (Enrolled players ∷ passed) = Renewed players ∷ noticed_in passed
+noticed_in (Noticed finding ∷ passed) = Found finding ∷ noticed_in passed
+noticed_in (_ ∷ passed) = noticed_in passed
