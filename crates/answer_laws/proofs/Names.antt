@@ -27,6 +27,7 @@ use Rattle.lobby_table.specs.Owed.{ForItself, ForPositions, ForTable, ForGame, F
 use Rattle.lobby_table.specs.Owed.{Dropper, Pairer, Followers, Behind}
 use Rattle.lobby_desk.specs.Tellings.{Known, is_counted}
 use Rattle.lobby_desk.specs.Who.{View}
+use Rattle.lobby_players.specs.Halts.{Halted}
 use Rattle.lobby_desk.specs.History.{Step, Sent, says_name, known_in, unanswered_in, shown_behind, shown_next, shown_now, shown_in, IsRun, IsLineOf, IsNameOf, IsOfAct, IsOfOwed, IsOfNext, IsOfHeard, IsOfName, AllNamed}
 use Rattle.lobby_desk.proofs.Named.{run_named}
 use Rattle.answer_laws.specs.Names.{Taken, IsTaken, name_after, Told, told_first, told_now, told_in, text_of, AreTaken, IsEnteredAs, IsEnteredFor, IsEnteredNext, IsEnteredHeard, IsEntered, AllEntered}
@@ -230,6 +231,6 @@ all_entered players (s ∷ past) h = (
   all_entered players past h.1,
 )
 
-pub run_entered : (players : List Player) (is_paused : Bool) (steps : List Step) (now : View) → IsRun players is_paused steps now →
+pub run_entered : (players : List Player) (at_first : Halted) (steps : List Step) (now : View) → IsRun players at_first steps now →
     AllEntered players steps
-run_entered players is_paused steps now run = all_entered players steps (run_named players is_paused steps now run).1
+run_entered players at_first steps now run = all_entered players steps (run_named players at_first steps now run).1

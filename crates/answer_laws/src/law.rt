@@ -17,6 +17,7 @@ ghost use Rattle.answer_laws.specs.Refusals.{refusal_as, IsTold};
 ghost use Rattle.answer_laws.specs.Acts.{IsReadAs};
 ghost use Rattle.lobby_words.specs.declared.players.Player.{Player};
 ghost use Rattle.lobby_desk.specs.Who.{View};
+ghost use Rattle.lobby_players.specs.Halts.{Halted};
 ghost use Rattle.lobby_desk.specs.History.{Step, IsRun};
 ghost use Rattle.answer_laws.specs.Names.{AllEntered};
 
@@ -61,6 +62,6 @@ pub fn law_of_heads_read()
 /// `as NAME LINE` under NAME; of a `drop` under the name of who waited in the game; and of a pairing its opening under
 /// White's name, and its join under Black's.
 pub fn law_of_entered_names()
-    ensures { (players : List Player) (is_paused : Bool) (steps : List Step) (now : View) →
-        IsRun players is_paused steps now → AllEntered players steps }
+    ensures { (players : List Player) (at_first : Halted) (steps : List Step) (now : View) →
+        IsRun players at_first steps now → AllEntered players steps }
 {}

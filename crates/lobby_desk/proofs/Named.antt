@@ -30,6 +30,7 @@ use Rattle.lobby_table.specs.Owed.{ForItself, ForPositions, ForTable, ForGame, F
 use Rattle.lobby_table.specs.Owed.{Dropper, Pairer, Followers, Behind, owed_lines}
 use Rattle.lobby_desk.specs.Tellings.{Known, is_counted, misnamed_heard, misnamed_next, owed_answered}
 use Rattle.lobby_desk.specs.Who.{View, IsSaid, IsSentFor, IsSentNext, IsSentHeard, IsDone, IsDropped, IsPaired, name_of}
+use Rattle.lobby_players.specs.Halts.{Halted}
 use Rattle.lobby_desk.specs.History.{Step, player_in, players_in, says_name, is_act, is_drop, is_pairing, name_behind, name_through, name_in, known_in, HasAsked, PairsNow, HasPaired, IsRun, Sent, sent_under, but_first, unanswered_in, shown_behind, shown_next, shown_in, IsLineIf, IsLineOf, IsNameIf, IsNameOf, IsOfAct, IsOfOwed, IsOfNext, IsOfHeard, IsOfName, AllNamed}
 use Rattle.lobby_table.proofs.Sent.{is_said_same}
 use Rattle.lobby_desk.proofs.Lines.{join_line_acts, list_reads, name_names}
@@ -594,12 +595,12 @@ event_named players past (Linked c text later token) before = tt
 event_named players past (ServerTurned is_here) before = tt
 event_named players past (Found finding) before = tt
 
-pub run_named : (players : List Player) (is_paused : Bool) (steps : List Step) (now : View) → IsRun players is_paused steps now →
+pub run_named : (players : List Player) (at_first : Halted) (steps : List Step) (now : View) → IsRun players at_first steps now →
     InStep players steps × AllNamed players steps
-run_named players is_paused [] now run = (λ taken. (tt, refl), tt)
-run_named players is_paused (s ∷ past) now run =
-    let before = run_named players is_paused past run.0 run.1 in
-    let good = run_good players is_paused past run.0 run.1 in (
+run_named players at_first [] now run = (λ taken. (tt, refl), tt)
+run_named players at_first (s ∷ past) now run =
+    let before = run_named players at_first past run.0 run.1 in
+    let good = run_good players at_first past run.0 run.1 in (
       done_waits players past run.0 s.event s.lines s.tells now good.agrees before.0 run.2.done,
       (event_named players past s.event before.0, before.1),
     )

@@ -32,7 +32,7 @@ use Rattle.lobby_table.specs.Refusals.{game_named}
 use Rattle.lobby_table.specs.Watching.{watch_if, sit_if, watches_kept, table_kept, risen}
 use Rattle.lobby_table.specs.Visitors.{acting}
 use Rattle.lobby_desk.specs.Events.{DeskInput, Opened, Closed, Said, Hurried, Heard, ServerTurned, Renewed, Linked, Found}
-use Rattle.lobby_players.specs.Halts.{found_line, found_texts}
+use Rattle.lobby_players.specs.Halts.{Halted, found_line, found_texts}
 use Rattle.lobby_words.specs.declared.words.Call.{Call}
 use Rattle.lobby_words.specs.declared.words.Call.TheVariants as calls
 use Rattle.lobby_desk.specs.Events.{MessageValue, to_one, to_log, sort_asker, asker, followers_of, follower, Following}
@@ -1455,8 +1455,8 @@ asked_then players past old (Linked c text later token) lines tells now agrees s
 asked_then players past old (ServerTurned is_here) lines tells now agrees step = tt
 asked_then players past old (Found finding) lines tells now agrees step = are_asked_later players (record { event = Found finding; lines = lines; tells = tells }) past old.known.owed agrees.asked
 
-begins_known : (players : List Player) (is_paused : Bool) (now : View) → BeginsView is_paused now → now.known ≡ known_in players []
-begins_known players is_paused now begins =
+begins_known : (players : List Player) (at_first : Halted) (now : View) → BeginsView at_first now → now.known ≡ known_in players []
+begins_known players at_first now begins =
     same_known now.known (known_in players []) begins.owed begins.left begins.begun begins.last begins.watches begins.table begins.seats begins.pairings begins.refused begins.follows begins.misnamed
 
 pub record RunGood (players : List Player) (steps : List Step) (now : View) : Type 0 where
@@ -1464,15 +1464,15 @@ pub record RunGood (players : List Player) (steps : List Step) (now : View) : Ty
   pub right : AllRight players steps
   pub told : AllTold players steps
 
-pub run_good : (players : List Player) (is_paused : Bool) (steps : List Step) (now : View) → IsRun players is_paused steps now →
+pub run_good : (players : List Player) (at_first : Halted) (steps : List Step) (now : View) → IsRun players at_first steps now →
     RunGood players steps now
-run_good players is_paused [] now run = record {
-  agrees = record { who = run.who; said = run.said; opens = run.none_open; known = begins_known players is_paused now run; offers = run.offers; asked = subst (AreAsked players []) (sym run.owed) tt; came = λ c h. absurd (false≢true h) };
+run_good players at_first [] now run = record {
+  agrees = record { who = run.who; said = run.said; opens = run.none_open; known = begins_known players at_first now run; offers = run.offers; asked = subst (AreAsked players []) (sym run.owed) tt; came = λ c h. absurd (false≢true h) };
   right = tt;
   told = tt;
 }
-run_good players is_paused (s ∷ past) now run =
-    let before = run_good players is_paused past run.0 run.1 in
+run_good players at_first (s ∷ past) now run =
+    let before = run_good players at_first past run.0 run.1 in
     let step = run.2 in
     let good = done_good players past run.0 s.event s.lines s.tells now before.agrees step.done in
     record {

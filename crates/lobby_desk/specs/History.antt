@@ -13,7 +13,7 @@ use Rattle.lobby_words.specs.Words.{is_login_sort, is_link_sort, number_or_0}
 use Rattle.lobby_words.specs.Players.{holder_of, known_name, renewed, IsChanged}
 use Rattle.lobby_words.specs.Answers.{act_game, answer, is_entered, lone_player}
 use Rattle.lobby_table.specs.Sending.{name_line, game_line, join_line, notice_lines}
-use Rattle.lobby_players.specs.Halts.{found_texts}
+use Rattle.lobby_players.specs.Halts.{Halted, found_texts}
 use Rattle.lobby_desk.specs.Events.{DeskInput, Opened, Closed, Said, Heard, ServerTurned, Renewed, Linked, Found}
 use Rattle.lobby_table.specs.Owed.{ForAct, Owed, Asker, Dropper, Pairer, Followers}
 use Rattle.lobby_desk.specs.Events.{MessageValue, Following, asked_after, told_as}
@@ -332,11 +332,11 @@ AllPaired players (s ∷ past) =
     AreFree (pairings_now s.event (known_in players past)) (name_before s.event (name_in past)) s.lines
     × AreOffered s.event (known_in players past).seats s.lines × AllPaired players past
 
--- a desk that begins with these players, with entries paused or not, and steps of it
-abbrev pub IsRun : List Player → Bool → List Step → View → Type 0
-IsRun players is_paused [] now = BeginsView is_paused now
-IsRun players is_paused (s ∷ past) now =
-    (before : View) × IsRun players is_paused past before
+-- a desk that begins with these players, with this halted and announced, and steps of it
+abbrev pub IsRun : List Player → Halted → List Step → View → Type 0
+IsRun players at_first [] now = BeginsView at_first now
+IsRun players at_first (s ∷ past) now =
+    (before : View) × IsRun players at_first past before
     × IsStep (players_in players past) before s.event s.lines s.tells now
 
 -- an act that the server answered: the message, and the server's whole answer

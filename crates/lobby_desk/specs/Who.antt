@@ -256,15 +256,14 @@ IsAnsweredIf false players v said plan c tells = tells ≡ []
 abbrev pub IsAnswered : List Player → View → List ℕ → Plan → ℕ → List MessageValue → Type 0
 IsAnswered players v said plan c tells = IsAnsweredIf (is_own plan) players v said plan c tells
 
--- A desk that begins: no connection has come, and nothing was said. Entries are paused just where it is told so, and
--- clocks may be stopped.
-pub record BeginsView (is_paused : Bool) (now : View) : Type 0 where
+-- A desk that begins: no connection has come, and nothing was said; just this is halted and announced.
+pub record BeginsView (at_first : Halted) (now : View) : Type 0 where
   pub next : now.next ≡ 0
   pub none_open : (c : ℕ) → now.is_open c ≡ false
   pub who : (c : ℕ) → now.who c ≡ None
   pub said : now.said ≡ None
   pub here : now.here ≡ false
-  pub paused : now.halts.paused ≡ is_paused
+  pub halts : now.halts ≡ at_first
   pub offers : now.offers ≡ []
   pub attendances : now.attendances ≡ []
   pub owed : now.known.owed ≡ []
@@ -279,8 +278,8 @@ pub record BeginsView (is_paused : Bool) (now : View) : Type 0 where
   pub follows : now.known.follows ≡ None
   pub misnamed : now.known.misnamed ≡ false
 
-abbrev pub Begins : Bool → Desk → Type 0
-Begins is_paused desk = BeginsView is_paused (view desk)
+abbrev pub Begins : Halted → Desk → Type 0
+Begins at_first desk = BeginsView at_first (view desk)
 
 -- a message, or one that comes too fast
 abbrev pub said_event : Bool → ℕ → List ℕ → ℕ → DeskInput

@@ -5,6 +5,7 @@ use Rattle.std.proofs.lemmas.Bool.{cases_Bool, false≢true}
 use Rattle.std.proofs.lemmas.Bool.Decides.{eqb_tells}
 use Rattle.std.proofs.lemmas.Option.{none-some}
 use Rattle.std.specs.Prelude.{◌==◌, ◌||◌}
+use Rattle.lobby_players.specs.Halts.{Halted}
 use Rattle.lobby_desk.specs.declared.desk.Desk.{Desk}
 use Rattle.lobby_words.specs.declared.players.Player.{Player}
 use Rattle.std.proofs.lemmas.List.Elements.{All-nil}
@@ -61,10 +62,10 @@ behind e traffic = record {
 
 -- What the desk has done so far; what of it was written to the server and is to go there; what of it went out to connections
 -- and is to go there; and what holds of it.
-pub record IsAt (players : List Player) (is_paused : Bool) (traffic : Traffic) (out : List MessageValue) (K : List Step → Type 0) (desk : Desk)
+pub record IsAt (players : List Player) (at_first : Halted) (traffic : Traffic) (out : List MessageValue) (K : List Step → Type 0) (desk : Desk)
     (wire : List ℕ) (told : List MessageValue) : Type 0 where
   pub steps : List Step
-  pub run : IsRun players is_paused steps (view desk)
+  pub run : IsRun players at_first steps (view desk)
   pub players_are : desk.players.items ≡ players_in players steps
   pub sent : sent_in steps ≡ traffic.wrote ++ wire
   pub heard : lines_heard steps ≡ traffic.heard
@@ -73,8 +74,8 @@ pub record IsAt (players : List Player) (is_paused : Bool) (traffic : Traffic) (
   pub tells : all_tells steps ≡ out ++ told
   pub holds : K steps
 
-abbrev IsTalkAt : List Player → Bool → Traffic → List MessageValue → (List Step → Type 0) → Talk → Type 0
-IsTalkAt players is_paused traffic out K talk = IsAt players is_paused traffic out K talk.desk talk.wire.items (message_values talk.told.items)
+abbrev IsTalkAt : List Player → Halted → Traffic → List MessageValue → (List Step → Type 0) → Talk → Type 0
+IsTalkAt players at_first traffic out K talk = IsAt players at_first traffic out K talk.desk talk.wire.items (message_values talk.told.items)
 
 -- what holds before an event holds of another behind it
 abbrev GoesOn : List MessageValue → DeskInput → List MessageValue → (List Step → Type 0) → (List Step → Type 0) → Type 0
@@ -87,12 +88,12 @@ told_more out t more u steps so_far is =
     ap (λ (l : List MessageValue). l ++ more) so_far ∙ (append_assoc out t more ∙ ap (λ (l : List MessageValue). out ++ l) (sym is))
 
 -- a step more, where the bytes that went to the server are known then
-at_by : (players : List Player) (is_paused : Bool) (traffic : Traffic) (out : List MessageValue) (K L : List Step → Type 0) (before after from to : List ℕ)
+at_by : (players : List Player) (at_first : Halted) (traffic : Traffic) (out : List MessageValue) (K L : List Step → Type 0) (before after from to : List ℕ)
     (t u : List MessageValue) (old new : Desk) (e : DeskInput) → GoesOn out e t K L →
-    (so_far : IsAt players is_paused traffic out K old before t) → (s : Steps old e from to t u new) →
+    (so_far : IsAt players at_first traffic out K old before t) → (s : Steps old e from to t u new) →
     kept e (sent_in so_far.steps) ++ bytes_of s.lines ≡ kept e traffic.wrote ++ after →
-    IsAt players is_paused (behind e traffic) out L new after u
-at_by players is_paused traffic out K L before after from to t u old new e goes so_far s sent = record {
+    IsAt players at_first (behind e traffic) out L new after u
+at_by players at_first traffic out K L before after from to t u old new e goes so_far s sent = record {
   steps = record { event = e; lines = s.lines; tells = s.tells } ∷ so_far.steps;
   run = (
     view old,
@@ -109,29 +110,29 @@ at_by players is_paused traffic out K L before after from to t u old new e goes 
   holds = goes so_far.steps (record { event = e; lines = s.lines; tells = s.tells }) refl so_far.tells so_far.holds;
 }
 
-at_more : (players : List Player) (is_paused : Bool) (traffic : Traffic) (out : List MessageValue) (K L : List Step → Type 0) (before after : List ℕ)
+at_more : (players : List Player) (at_first : Halted) (traffic : Traffic) (out : List MessageValue) (K L : List Step → Type 0) (before after : List ℕ)
     (t u : List MessageValue) (old new : Desk) (e : DeskInput) → ((bytes : List ℕ) → kept e bytes ≡ bytes) → GoesOn out e t K L →
-    IsAt players is_paused traffic out K old before t → Steps old e before after t u new → IsAt players is_paused (behind e traffic) out L new after u
-at_more players is_paused traffic out K L before after t u old new e keeps goes so_far s =
-    at_by players is_paused traffic out K L before after before after t u old new e goes so_far s
+    IsAt players at_first traffic out K old before t → Steps old e before after t u new → IsAt players at_first (behind e traffic) out L new after u
+at_more players at_first traffic out K L before after t u old new e keeps goes so_far s =
+    at_by players at_first traffic out K L before after before after t u old new e goes so_far s
     (ap (λ (bytes : List ℕ). bytes ++ bytes_of s.lines) (keeps (sent_in so_far.steps) ∙ so_far.sent)
     ∙ (append_assoc traffic.wrote before (bytes_of s.lines) ∙ (ap (λ (bytes : List ℕ). traffic.wrote ++ bytes) (sym s.sent)
     ∙ ap (λ (bytes : List ℕ). bytes ++ after) (sym (keeps traffic.wrote)))))
 
-at_anew : (players : List Player) (is_paused : Bool) (traffic : Traffic) (out : List MessageValue) (K L : List Step → Type 0) (before wire : List ℕ)
+at_anew : (players : List Player) (at_first : Halted) (traffic : Traffic) (out : List MessageValue) (K L : List Step → Type 0) (before wire : List ℕ)
     (t u : List MessageValue) (old new : Desk) (e : DeskInput) → ((bytes : List ℕ) → kept e bytes ≡ []) → GoesOn out e t K L →
-    IsAt players is_paused traffic out K old before t → Steps old e [] [] t u new → wire ≡ [] →
-    IsAt players is_paused (behind e traffic) out L new wire u
-at_anew players is_paused traffic out K L before wire t u old new e drops goes so_far s nothing =
-    at_by players is_paused traffic out K L before wire [] [] t u old new e goes so_far s
+    IsAt players at_first traffic out K old before t → Steps old e [] [] t u new → wire ≡ [] →
+    IsAt players at_first (behind e traffic) out L new wire u
+at_anew players at_first traffic out K L before wire t u old new e drops goes so_far s nothing =
+    at_by players at_first traffic out K L before wire [] [] t u old new e goes so_far s
     (ap (λ (bytes : List ℕ). bytes ++ bytes_of s.lines) (drops (sent_in so_far.steps))
     ∙ (sym s.sent ∙ (sym nothing ∙ ap (λ (bytes : List ℕ). bytes ++ wire) (sym (drops traffic.wrote)))))
 
 -- more holds of the same
-at_with : (players : List Player) (is_paused : Bool) (traffic : Traffic) (out : List MessageValue) (K L : List Step → Type 0) (desk : Desk)
-    (wire : List ℕ) (told : List MessageValue) → ((steps : List Step) → K steps → L steps) → IsAt players is_paused traffic out K desk wire told →
-    IsAt players is_paused traffic out L desk wire told
-at_with players is_paused traffic out K L desk wire told more so_far = record {
+at_with : (players : List Player) (at_first : Halted) (traffic : Traffic) (out : List MessageValue) (K L : List Step → Type 0) (desk : Desk)
+    (wire : List ℕ) (told : List MessageValue) → ((steps : List Step) → K steps → L steps) → IsAt players at_first traffic out K desk wire told →
+    IsAt players at_first traffic out L desk wire told
+at_with players at_first traffic out K L desk wire told more so_far = record {
   steps = so_far.steps;
   run = so_far.run;
   players_are = so_far.players_are;
@@ -154,19 +155,19 @@ same_said TooFast c text traffic = refl
 same_said (WithLink later token) c text traffic = refl
 
 -- the desk has got so far, and no number more was given
-abbrev IsFurther : List Player → Bool → Traffic → List MessageValue → (List Step → Type 0) → Talk → Talk → Type 0
-IsFurther players is_paused traffic out K old new = IsTalkAt players is_paused traffic out K new × (new.next ≡ old.next)
+abbrev IsFurther : List Player → Halted → Traffic → List MessageValue → (List Step → Type 0) → Talk → Talk → Type 0
+IsFurther players at_first traffic out K old new = IsTalkAt players at_first traffic out K new × (new.next ≡ old.next)
 
-same_talk : (players : List Player) (is_paused : Bool) (traffic : Traffic) (out : List MessageValue) (K : List Step → Type 0) (old new : Talk) →
-    IsTalkAt players is_paused traffic out K old → new ≡ old → IsFurther players is_paused traffic out K old new
-same_talk players is_paused traffic out K old new so_far same =
-    (subst (λ (t : Talk). IsTalkAt players is_paused traffic out K t) (sym same) so_far, ap (λ (t : Talk). t.next) same)
+same_talk : (players : List Player) (at_first : Halted) (traffic : Traffic) (out : List MessageValue) (K : List Step → Type 0) (old new : Talk) →
+    IsTalkAt players at_first traffic out K old → new ≡ old → IsFurther players at_first traffic out K old new
+same_talk players at_first traffic out K old new so_far same =
+    (subst (λ (t : Talk). IsTalkAt players at_first traffic out K t) (sym same) so_far, ap (λ (t : Talk). t.next) same)
 
-moved : (players : List Player) (is_paused : Bool) (traffic : Traffic) (out : List MessageValue) (K L : List Step → Type 0) (old new : Talk) (e : DeskInput) →
-    ((bytes : List ℕ) → kept e bytes ≡ bytes) → GoesOn out e (message_values old.told.items) K L → IsTalkAt players is_paused traffic out K old →
-    Moves old e new → IsFurther players is_paused (behind e traffic) out L old new
-moved players is_paused traffic out K L old new e keeps goes so_far moves =
-    (at_more players is_paused traffic out K L _ _ _ _ old.desk new.desk e keeps goes so_far moves.steps, moves.next)
+moved : (players : List Player) (at_first : Halted) (traffic : Traffic) (out : List MessageValue) (K L : List Step → Type 0) (old new : Talk) (e : DeskInput) →
+    ((bytes : List ℕ) → kept e bytes ≡ bytes) → GoesOn out e (message_values old.told.items) K L → IsTalkAt players at_first traffic out K old →
+    Moves old e new → IsFurther players at_first (behind e traffic) out L old new
+moved players at_first traffic out K L old new e keeps goes so_far moves =
+    (at_more players at_first traffic out K L _ _ _ _ old.desk new.desk e keeps goes so_far moves.steps, moves.next)
 
 -- what the server says, and who goes, changes nothing of who is connected
 abbrev IsOfNobody : DeskInput → Type 0
@@ -233,7 +234,7 @@ pub record AreKept {S : Type 0} (remaining contents : S → Option (List ℕ)) (
   pub were : WereServed remaining contents site came steps out former
   pub known : AreKnown steps former guests
 
-module _ {S : Type 0} (remaining contents : S → Option (List ℕ)) (site : Site) (came : Before S) (players : List Player) (is_paused : Bool)
+module _ {S : Type 0} (remaining contents : S → Option (List ℕ)) (site : Site) (came : Before S) (players : List Player) (at_first : Halted)
     (former : List (Guest S)) where
   abbrev Keeps : List MessageValue → List (Guest S) → List Step → Type 0
   Keeps out guests steps = AreKept remaining contents site came former out guests steps
@@ -256,30 +257,30 @@ module _ {S : Type 0} (remaining contents : S → Option (List ℕ)) (site : Sit
       goes_on out told e guests (all_apart e nobody (numbers guests)) (all_apart e nobody (numbers former)) none
 
   heard_lines : (traffic : Traffic) (out : List MessageValue) (guests : List (Guest S)) (lines : List (List ℕ)) (old new : Talk) →
-      IsTalkAt players is_paused traffic out (Keeps out guests) old → AreHeard lines old new →
-      IsFurther players is_paused (behind_lines lines traffic) out (Keeps out guests) old new
-  heard_lines traffic out guests [] old new so_far same = same_talk players is_paused traffic out (Keeps out guests) old new so_far same
+      IsTalkAt players at_first traffic out (Keeps out guests) old → AreHeard lines old new →
+      IsFurther players at_first (behind_lines lines traffic) out (Keeps out guests) old new
+  heard_lines traffic out guests [] old new so_far same = same_talk players at_first traffic out (Keeps out guests) old new so_far same
   heard_lines traffic out guests (line ∷ before) old new so_far (between, are, none, moves) =
       let so = heard_lines traffic out guests before old between so_far are in
-      let more = moved players is_paused (behind_lines before traffic) out (Keeps out guests) (Keeps out guests) between new (Heard line)
+      let more = moved players at_first (behind_lines before traffic) out (Keeps out guests) (Keeps out guests) between new (Heard line)
       (λ bytes. refl) (goes_by out (message_values between.told.items) (Heard line) guests (λ c. tt) (λ c. refl)) so.0 moves in
       (more.0, more.1 ∙ so.1)
 
   heard_server : (traffic : Traffic) (out : List MessageValue) (guests : List (Guest S)) (server after : Option (Link S))
-      (old new : Talk) → IsTalkAt players is_paused traffic out (Keeps out guests) old → (hears : HearsServer remaining server after old new) →
-      IsFurther players is_paused (behind_lines (lines_of_server remaining server after old new hears) traffic) out (Keeps out guests) old new
+      (old new : Talk) → IsTalkAt players at_first traffic out (Keeps out guests) old → (hears : HearsServer remaining server after old new) →
+      IsFurther players at_first (behind_lines (lines_of_server remaining server after old new hears) traffic) out (Keeps out guests) old new
   heard_server traffic out guests None after old new so_far (is, same) =
-      same_talk players is_paused traffic out (Keeps out guests) old new so_far same
+      same_talk players at_first traffic out (Keeps out guests) old new so_far same
   heard_server traffic out guests (Some link) after old new so_far (next, is, takes) =
       heard_lines traffic out guests takes.lines.lines old new so_far takes.lines.heard
 
   parted : (traffic : Traffic) (out : List MessageValue) (guests : List (Guest S)) (gone : Bool) (server after : Option (Link S))
-      (old new : Talk) → IsTalkAt players is_paused traffic out (Keeps out guests) old → PartsFromServer gone server after old new →
-      IsFurther players is_paused (behind_loss gone traffic) out (Keeps out guests) old new
+      (old new : Talk) → IsTalkAt players at_first traffic out (Keeps out guests) old → PartsFromServer gone server after old new →
+      IsFurther players at_first (behind_loss gone traffic) out (Keeps out guests) old new
   parted traffic out guests false server after old new so_far (is, same) =
-      same_talk players is_paused traffic out (Keeps out guests) old new so_far same
+      same_talk players at_first traffic out (Keeps out guests) old new so_far same
   parted traffic out guests true server after old new so_far (is, anew) = (
-    at_anew players is_paused traffic out (Keeps out guests) (Keeps out guests) _ _ _ _ old.desk new.desk Gone (λ bytes. refl)
+    at_anew players at_first traffic out (Keeps out guests) (Keeps out guests) _ _ _ _ old.desk new.desk Gone (λ bytes. refl)
         (goes_by out (message_values old.told.items) Gone guests (λ c. tt) (λ c. refl)) so_far anew.steps anew.nothing,
     anew.next,
   )
@@ -295,7 +296,7 @@ module _ {S : Type 0} (remaining contents : S → Option (List ℕ)) (site : Sit
 
   abbrev ClosesTo : Traffic → List MessageValue → List (Guest S) → (List Step → Type 0) → Talk → Talk → Type 0
   ClosesTo traffic out stay P old new =
-      IsFurther players is_paused traffic out (Closing out stay P) old new × (message_values new.told.items ≡ [])
+      IsFurther players at_first traffic out (Closing out stay P) old new × (message_values new.told.items ≡ [])
 
   none_told : (old new : Talk) (c : ℕ) → Moves old (Closed c) new → message_values old.told.items ≡ [] → message_values new.told.items ≡ []
   none_told old new c moves none =
@@ -304,12 +305,12 @@ module _ {S : Type 0} (remaining contents : S → Option (List ℕ)) (site : Sit
   -- nothing is to be closed
   none_closed : (traffic : Traffic) (out : List MessageValue) (stay : List (Guest S)) (P : List Step → Type 0) (lost : Bool)
       (number : Option ℕ) → ((steps : List Step) → ClosedIf lost steps out number) → (old new : Talk) →
-      IsTalkAt players is_paused traffic out (Closing out stay P) old → message_values old.told.items ≡ [] → new ≡ old →
+      IsTalkAt players at_first traffic out (Closing out stay P) old → message_values old.told.items ≡ [] → new ≡ old →
       ClosesTo traffic out stay (λ steps. P steps × ClosedIf lost steps out number) old new
   none_closed traffic out stay P lost number closed old new so_far none same =
-      let so = same_talk players is_paused traffic out (Closing out stay P) old new so_far same in (
+      let so = same_talk players at_first traffic out (Closing out stay P) old new so_far same in (
         (
-          at_with players is_paused traffic out (Closing out stay P) (Closing out stay (λ steps. P steps × ClosedIf lost steps out number))
+          at_with players at_first traffic out (Closing out stay P) (Closing out stay (λ steps. P steps × ClosedIf lost steps out number))
               new.desk new.wire.items (message_values new.told.items)
               (λ steps was. record { kept = was.kept; more = (was.more, closed steps) }) so.0,
           so.1,
@@ -318,7 +319,7 @@ module _ {S : Type 0} (remaining contents : S → Option (List ℕ)) (site : Sit
       )
 
   closed_if : (traffic : Traffic) (out : List MessageValue) (stay : List (Guest S)) (P : List Step → Type 0) → Lasts P →
-      (lost : Bool) (number : Option ℕ) (old new : Talk) → IsTalkAt players is_paused traffic out (Closing out stay P) old →
+      (lost : Bool) (number : Option ℕ) (old new : Talk) → IsTalkAt players at_first traffic out (Closing out stay P) old →
       message_values old.told.items ≡ [] → IsClosedIf lost number old new →
       ClosesTo traffic out stay (λ steps. P steps × ClosedIf lost steps out number) old new
   closed_if traffic out stay P lasts false number old new so_far none same =
@@ -326,7 +327,7 @@ module _ {S : Type 0} (remaining contents : S → Option (List ℕ)) (site : Sit
   closed_if traffic out stay P lasts true None old new so_far none same =
       none_closed traffic out stay P true None (λ steps. tt) old new so_far none same
   closed_if traffic out stay P lasts true (Some c) old new so_far none moves = (
-    moved players is_paused traffic out (Closing out stay P) (Closing out stay (λ steps. P steps × ClosedIf true steps out (Some c))) old new
+    moved players at_first traffic out (Closing out stay P) (Closing out stay (λ steps. P steps × ClosedIf true steps out (Some c))) old new
         (Closed c) (λ bytes. refl) (λ steps s is tells was. record {
           kept = goes_by out (message_values old.told.items) (Closed c) stay (λ d. tt) (λ d. refl) steps s is tells was.kept;
           more = (
@@ -345,12 +346,12 @@ module _ {S : Type 0} (remaining contents : S → Option (List ℕ)) (site : Sit
   )
 
   closed_all : (traffic : Traffic) (out : List MessageValue) (stay guests : List (Guest S)) (P : List Step → Type 0) → Lasts P →
-      (old new : Talk) → IsTalkAt players is_paused traffic out (Closing out stay P) old → message_values old.told.items ≡ [] →
+      (old new : Talk) → IsTalkAt players at_first traffic out (Closing out stay P) old → message_values old.told.items ≡ [] →
       AreClosed guests old new → ClosesTo traffic out stay (λ steps. P steps × AllClosed guests out steps) old new
   closed_all traffic out stay [] P lasts old new so_far none same =
-      let so = same_talk players is_paused traffic out (Closing out stay P) old new so_far same in (
+      let so = same_talk players at_first traffic out (Closing out stay P) old new so_far same in (
         (
-          at_with players is_paused traffic out (Closing out stay P) (Closing out stay (λ steps. P steps × Unit {0}))
+          at_with players at_first traffic out (Closing out stay P) (Closing out stay (λ steps. P steps × Unit {0}))
               new.desk new.wire.items (message_values new.told.items)
               (λ steps was. record { kept = was.kept; more = (was.more, tt) }) so.0,
           so.1,
@@ -362,7 +363,7 @@ module _ {S : Type 0} (remaining contents : S → Option (List ℕ)) (site : Sit
       let all = closed_all traffic out stay guests (λ steps. P steps × ClosedIf guest.is_lost steps out guest.number)
       (λ s steps was. (lasts s steps was.0, closed_if_on guest.is_lost s steps out guest.number was.1)) between new so.0.0 so.1 are in (
         (
-          at_with players is_paused traffic out
+          at_with players at_first traffic out
               (Closing out stay (λ steps. (P steps × ClosedIf guest.is_lost steps out guest.number) × AllClosed guests out steps))
               (Closing out stay (λ steps. P steps × AllClosed (guest ∷ guests) out steps)) new.desk new.wire.items
               (message_values new.told.items)
@@ -516,7 +517,7 @@ said_behind d how text (n ∷ ns) (one, all) = (said_behind_one d how text n one
 
 -- ---- browsers that are attended
 
-module _ {S : Type 0} (remaining contents : S → Option (List ℕ)) (site : Site) (came : Before S) (players : List Player) (is_paused : Bool)
+module _ {S : Type 0} (remaining contents : S → Option (List ℕ)) (site : Site) (came : Before S) (players : List Player) (at_first : Halted)
     (former : List (Guest S)) (traffic : Traffic) (out : List MessageValue) where
   abbrev Served : Option ℕ → Spot S → List Step → Type 0
   Served n now steps = IsServed remaining contents (around site came) steps out n now
@@ -564,20 +565,20 @@ module _ {S : Type 0} (remaining contents : S → Option (List ℕ)) (site : Sit
 
   heard_as : (done rest : List (Guest S)) (heard : Option HeardOf) (at : ℕ) (number after : Option ℕ) (a b : Spot S) (s t : Talk) →
       OwnBefore s.next done (number ∷ numbers rest) → IsOwn s.next number (numbers rest) → AreOwn s.next (numbers rest) →
-      IsTalkAt players is_paused traffic out (Three done rest number a) s → b.waits ≡ a.waits →
+      IsTalkAt players at_first traffic out (Three done rest number a) s → b.waits ≡ a.waits →
       DoesAt remaining contents (Gave heard) a b → IsHeardAs heard at number after s t →
-      IsTalkAt players is_paused traffic out (Three done rest after b) t × Numbered s.next number after t.next
+      IsTalkAt players at_first traffic out (Three done rest after b) t × Numbered s.next number after t.next
   heard_as done rest None at number after a b s t before own owns so_far waits does (same_number, same) =
-      let so = same_talk players is_paused traffic out (Three done rest number a) s t so_far same in (
-        subst (λ (n : Option ℕ). IsTalkAt players is_paused traffic out (Three done rest n b) t) (sym same_number)
-            (at_with players is_paused traffic out (Three done rest number a) (Three done rest number b) t.desk t.wire.items
+      let so = same_talk players at_first traffic out (Three done rest number a) s t so_far same in (
+        subst (λ (n : Option ℕ). IsTalkAt players at_first traffic out (Three done rest n b) t) (sym same_number)
+            (at_with players at_first traffic out (Three done rest number a) (Three done rest number b) t.desk t.wire.items
             (message_values t.told.items) (with_one done rest number a b
             (λ steps was. gave_nothing remaining contents site came steps out number a b waits does was)) so.0),
         inl (same_number, so.1),
       )
   heard_as done rest (Some heards.Opened) at None after a b s t before own owns so_far waits does (c, is, opens) = (
-    subst (λ (n : Option ℕ). IsTalkAt players is_paused traffic out (Three done rest n b) t) (sym is)
-        (at_more players is_paused traffic out (Three done rest None a) (Three done rest (Some c) b) _ _ _ _ s.desk t.desk (Opened c)
+    subst (λ (n : Option ℕ). IsTalkAt players at_first traffic out (Three done rest n b) t) (sym is)
+        (at_more players at_first traffic out (Three done rest None a) (Three done rest (Some c) b) _ _ _ _ s.desk t.desk (Opened c)
         (λ bytes. refl) (λ steps step event tells three. record {
           before = before_on done step steps
               (subst (λ (e : DeskInput). AreApart (numbers done) e) (sym event)
@@ -594,17 +595,17 @@ module _ {S : Type 0} (remaining contents : S → Option (List ℕ)) (site : Sit
     inr (c, is, opens.fresh, opens.next),
   )
   heard_as done rest (Some heards.Opened) at (Some d) after a b s t before own owns so_far waits does (is, same) =
-      let so = same_talk players is_paused traffic out (Three done rest (Some d) a) s t so_far same in (
-        subst (λ (n : Option ℕ). IsTalkAt players is_paused traffic out (Three done rest n b) t) (sym is)
-            (at_with players is_paused traffic out (Three done rest (Some d) a) (Three done rest (Some d) b) t.desk t.wire.items
+      let so = same_talk players at_first traffic out (Three done rest (Some d) a) s t so_far same in (
+        subst (λ (n : Option ℕ). IsTalkAt players at_first traffic out (Three done rest n b) t) (sym is)
+            (at_with players at_first traffic out (Three done rest (Some d) a) (Three done rest (Some d) b) t.desk t.wire.items
             (message_values t.told.items) (with_one done rest (Some d) a b
             (λ steps was. gave_again remaining contents site came steps out d a b waits does was)) so.0),
         inl (is, so.1),
       )
   heard_as done rest (Some (heards.Text text)) at None after a b s t before own owns so_far waits does (is, same) =
-      let so = same_talk players is_paused traffic out (Three done rest None a) s t so_far same in (
-        subst (λ (n : Option ℕ). IsTalkAt players is_paused traffic out (Three done rest n b) t) (sym is)
-            (at_with players is_paused traffic out (Three done rest None a) (Three done rest None b) t.desk t.wire.items
+      let so = same_talk players at_first traffic out (Three done rest None a) s t so_far same in (
+        subst (λ (n : Option ℕ). IsTalkAt players at_first traffic out (Three done rest n b) t) (sym is)
+            (at_with players at_first traffic out (Three done rest None a) (Three done rest None b) t.desk t.wire.items
             (message_values t.told.items) (with_one done rest None a b
             (λ steps was. gave_early remaining contents site came steps out text a b waits does was)) so.0),
         inl (is, so.1),
@@ -612,7 +613,7 @@ module _ {S : Type 0} (remaining contents : S → Option (List ℕ)) (site : Sit
   heard_as done rest (Some (heards.Text text)) at (Some d) after a b s t before own owns so_far waits does
       (is, (shown, a_text, no_text, says)) =
       let how = says.how in
-      let so = moved players is_paused traffic out (Three done rest (Some d) a) (Three done rest (Some d) b) s t (saying how d shown)
+      let so = moved players at_first traffic out (Three done rest (Some d) a) (Three done rest (Some d) b) s t (saying how d shown)
       (keeps_said how d shown) (λ steps step event tells three. record {
         before = before_on done step steps
             (subst (λ (e : DeskInput). AreApart (numbers done) e) (sym event)
@@ -626,8 +627,8 @@ module _ {S : Type 0} (remaining contents : S → Option (List ℕ)) (site : Sit
         known = known_on (IsIn done (Some d ∷ numbers rest)) step steps
             (subst (λ (e : DeskInput). IsNoOpening e) (sym event) (said_opens_none how d shown)) three.known;
       }) so_far says.moves in (
-        subst (λ (n : Option ℕ). IsTalkAt players is_paused traffic out (Three done rest n b) t) (sym is)
-            (subst (λ (w : Traffic). IsTalkAt players is_paused w out (Three done rest (Some d) b) t) (same_said how d shown traffic) so.0),
+        subst (λ (n : Option ℕ). IsTalkAt players at_first traffic out (Three done rest n b) t) (sym is)
+            (subst (λ (w : Traffic). IsTalkAt players at_first w out (Three done rest (Some d) b) t) (same_said how d shown traffic) so.0),
         inl (is, so.1),
       )
 
@@ -654,21 +655,21 @@ module _ {S : Type 0} (remaining contents : S → Option (List ℕ)) (site : Sit
 
   attended_one : (at : ℕ) (done rest : List (Guest S)) (guest next : Guest S) (s t : Talk) →
       OwnBefore s.next done (guest.number ∷ numbers rest) → IsOwn s.next guest.number (numbers rest) →
-      AreOwn s.next (numbers rest) → IsTalkAt players is_paused traffic out (Two done (guest ∷ rest)) s →
+      AreOwn s.next (numbers rest) → IsTalkAt players at_first traffic out (Two done (guest ∷ rest)) s →
       IsAttended remaining site at guest next s t →
-      IsTalkAt players is_paused traffic out (Two (next ∷ done) rest) t × Numbered s.next guest.number next.number t.next
+      IsTalkAt players at_first traffic out (Two (next ∷ done) rest) t × Numbered s.next guest.number next.number t.next
   attended_one at done rest guest next s t before own owns so_far one =
-      let read : IsTalkAt players is_paused traffic out (Three done rest one.read.number (spot one.read)) s =
-      at_with players is_paused traffic out (Two done (guest ∷ rest)) (Three done rest one.read.number (spot one.read)) s.desk s.wire.items
+      let read : IsTalkAt players at_first traffic out (Three done rest one.read.number (spot one.read)) s =
+      at_with players at_first traffic out (Two done (guest ∷ rest)) (Three done rest one.read.number (spot one.read)) s.desk s.wire.items
       (message_values s.told.items) (λ steps two. record {
         before = two.before;
         one = served_read remaining contents site came steps out guest one.read one.reads two.behind.0;
         behind = two.behind.1;
         known = subst (λ (n : Option ℕ). KnowsBy (IsIn done (n ∷ numbers rest)) steps) (sym one.reads.number) two.known;
       }) so_far in
-      let ended : (u : Talk) → IsTalkAt players is_paused traffic out (Three done rest next.number (spot next)) u →
-      IsTalkAt players is_paused traffic out (Two (next ∷ done) rest) u =
-      λ u at_u. at_with players is_paused traffic out (Three done rest next.number (spot next)) (Two (next ∷ done) rest) u.desk u.wire.items
+      let ended : (u : Talk) → IsTalkAt players at_first traffic out (Three done rest next.number (spot next)) u →
+      IsTalkAt players at_first traffic out (Two (next ∷ done) rest) u =
+      λ u at_u. at_with players at_first traffic out (Three done rest next.number (spot next)) (Two (next ∷ done) rest) u.desk u.wire.items
       (message_values u.told.items) (λ steps three. record {
         before = record { served = (three.one, three.before.served); were = three.before.were };
         behind = three.behind;
@@ -682,19 +683,19 @@ module _ {S : Type 0} (remaining contents : S → Option (List ℕ)) (site : Sit
             (ap (λ v. v.items) asked.waits) (asked.stream, asked.gives) asked.told in
             (ended t so.0, subst (λ (n : Option ℕ). Numbered s.next n next.number t.next) one.reads.number so.1)
         | inr same ↦
-            let here : IsTalkAt players is_paused traffic out (Three done rest next.number (spot next)) s =
-            subst (λ (g : Guest S). IsTalkAt players is_paused traffic out (Three done rest g.number (spot g)) s) (sym same.0) read in
-            let so = same_talk players is_paused traffic out (Two (next ∷ done) rest) s t (ended s here) same.1 in
+            let here : IsTalkAt players at_first traffic out (Three done rest next.number (spot next)) s =
+            subst (λ (g : Guest S). IsTalkAt players at_first traffic out (Three done rest g.number (spot g)) s) (sym same.0) read in
+            let so = same_talk players at_first traffic out (Two (next ∷ done) rest) s t (ended s here) same.1 in
             (so.0, inl (ap (λ (g : Guest S). g.number) same.0 ∙ one.reads.number, so.1))
       ]
 
   attended_all : (at : ℕ) (done guests after : List (Guest S)) (s t : Talk) → OwnBefore s.next done (numbers guests) →
-      AreOwn s.next (numbers guests) → IsTalkAt players is_paused traffic out (Two done guests) s →
+      AreOwn s.next (numbers guests) → IsTalkAt players at_first traffic out (Two done guests) s →
       InTurn (IsAttended remaining site at) guests after s t →
-      IsTalkAt players is_paused traffic out (Two done after) t × AreNumbered s.next (numbers guests) (numbers after) t.next
+      IsTalkAt players at_first traffic out (Two done after) t × AreNumbered s.next (numbers guests) (numbers after) t.next
   attended_all at done [] after s t before owns so_far (none, same) =
-      let so = same_talk players is_paused traffic out (Two done []) s t so_far same in (
-        subst (λ (l : List (Guest S)). IsTalkAt players is_paused traffic out (Two done l) t) (sym none) so.0,
+      let so = same_talk players at_first traffic out (Two done []) s t so_far same in (
+        subst (λ (l : List (Guest S)). IsTalkAt players at_first traffic out (Two done l) t) (sym none) so.0,
         subst (λ (l : List (Guest S)). AreNumbered s.next [] (numbers l) t.next) (sym none) so.1,
       )
   attended_all at done (guest ∷ guests) after s t before (own, owns) so_far (next, rest, between, whole, is, are) =
@@ -708,8 +709,8 @@ module _ {S : Type 0} (remaining contents : S → Option (List ℕ)) (site : Sit
         all_own_tail s.next between.next (numbers former) guest.number (numbers guests) up before.1,
       )
       (own_up s.next between.next (numbers guests) up owns) one.0 are in (
-        subst (λ (l : List (Guest S)). IsTalkAt players is_paused traffic out (Two done l) t) (sym whole)
-            (at_with players is_paused traffic out (Two (next ∷ done) rest) (Two done (next ∷ rest)) t.desk t.wire.items
+        subst (λ (l : List (Guest S)). IsTalkAt players at_first traffic out (Two done l) t) (sym whole)
+            (at_with players at_first traffic out (Two (next ∷ done) rest) (Two done (next ∷ rest)) t.desk t.wire.items
             (message_values t.told.items) (λ steps two. record {
               before = record { served = two.before.served.1; were = two.before.were };
               behind = (two.before.served.0, two.behind);
@@ -1046,14 +1047,14 @@ abbrev traffic_of : Outside → List (List ℕ) → Traffic
 traffic_of o heard = record { wrote = o.wrote; heard = heard; presences = o.presences; notices = o.notices }
 
 -- what holds of a hall, where this was outside and browsers came by these streams
-pub record IsHallAt {S : Type 0} (remaining contents : S → Option (List ℕ)) (players : List Player) (is_paused : Bool) (o : Outside)
+pub record IsHallAt {S : Type 0} (remaining contents : S → Option (List ℕ)) (players : List Player) (at_first : Halted) (o : Outside)
     (came : Before S) (hall : Hall S) : Type 0 where
   pub out : List MessageValue
   pub heard : List (List ℕ)
   pub cut : AreCut o.taken heard hall.server
   pub former : List (Guest S)
   pub logged : o.put ≡ log_texts out
-  pub talk : IsAt players is_paused (traffic_of o heard) out (AreKept remaining contents hall.site came former out hall.guests.items)
+  pub talk : IsAt players at_first (traffic_of o heard) out (AreKept remaining contents hall.site came former out hall.guests.items)
       hall.talk.desk hall.talk.wire.items (message_values hall.talk.told.items)
   pub own : AreOwn hall.talk.next (numbers (former ++ hall.guests.items))
   pub whole : NoLineWaits hall.server
@@ -1105,19 +1106,19 @@ module _ {S : Type 0} (remaining contents : S → Option (List ℕ)) (site : Sit
     known = λ c come. one_parted c former guests (kept.known c come);
   }
 
-module _ {S : Type 0} (remaining contents : S → Option (List ℕ)) (players : List Player) (is_paused : Bool) (came : Before S) where
+module _ {S : Type 0} (remaining contents : S → Option (List ℕ)) (players : List Player) (at_first : Halted) (came : Before S) where
   -- what went out is delivered, and a front of what is to go to the server is written
   gone_out : (at : ℕ) (site : Site) (former : List (Guest S)) (out : List MessageValue) (base : Traffic) (front : List ℕ) (said : Talk) (desk : Desk)
       (wire : List ℕ) (after : Option UnderWay) (guests told : List (Guest S)) →
       AreDelivered at said.kept.answers.items said.told.items said.replay after guests told → said.wire.items ≡ front ++ wire →
       desk ≡ said.desk →
-      IsAt players is_paused base out (AreKept remaining contents site came former out guests) said.desk said.wire.items
+      IsAt players at_first base out (AreKept remaining contents site came former out guests) said.desk said.wire.items
       (message_values said.told.items) →
-      IsAt players is_paused (behind_front front base) (out ++ message_values said.told.items)
+      IsAt players at_first (behind_front front base) (out ++ message_values said.told.items)
       (AreKept remaining contents site came former (out ++ message_values said.told.items) told) desk wire []
   gone_out at site former out base front said desk wire after guests told delivers split same so_far = record {
     steps = so_far.steps;
-    run = subst (λ (d : Desk). IsRun players is_paused so_far.steps (view d)) (sym same) so_far.run;
+    run = subst (λ (d : Desk). IsRun players at_first so_far.steps (view d)) (sym same) so_far.run;
     players_are = ap (λ (d : Desk). d.players.items) same ∙ so_far.players_are;
     sent = so_far.sent ∙ (ap (λ (bytes : List ℕ). base.wrote ++ bytes) split ∙ sym (append_assoc base.wrote front wire));
     heard = so_far.heard;
@@ -1136,7 +1137,7 @@ module _ {S : Type 0} (remaining contents : S → Option (List ℕ)) (players : 
   -- What holds behind a turn, of the desk and of browsers' numbers, where this was so before.
   record IsTurnedTo (traffic : Traffic) (later : List MessageValue) (site : Site) (old new : Hall S) : Type 0 where
     former : List (Guest S)
-    talk : IsAt players is_paused traffic later (AreKept remaining contents site came former later new.guests.items) new.talk.desk
+    talk : IsAt players at_first traffic later (AreKept remaining contents site came former later new.guests.items) new.talk.desk
         new.talk.wire.items (message_values new.talk.told.items)
     own : AreOwn new.talk.next (numbers (former ++ new.guests.items))
     lined : AreAtLine former × AreAtLine new.guests.items
@@ -1144,13 +1145,13 @@ module _ {S : Type 0} (remaining contents : S → Option (List ℕ)) (players : 
   -- one pass over browsers
   attended_pass : (at : ℕ) (former : List (Guest S)) (base : Traffic) (out : List MessageValue) (site : Site) (guests after : List (Guest S))
       (s t : Talk) → AreOwn s.next (numbers (former ++ guests)) →
-      IsTalkAt players is_paused base out (Two remaining contents site came players is_paused former base out [] guests) s →
+      IsTalkAt players at_first base out (Two remaining contents site came players at_first former base out [] guests) s →
       InTurn (IsAttended remaining site at) guests after s t →
-      IsTalkAt players is_paused base out (Two remaining contents site came players is_paused former base out [] after) t
+      IsTalkAt players at_first base out (Two remaining contents site came players at_first former base out [] after) t
       × AreOwn t.next (numbers (former ++ after))
   attended_pass at former base out site guests after s t own two all =
       let apart = own_apart s.next former guests own in
-      let said = attended_all remaining contents site came players is_paused former base out at [] guests after s t
+      let said = attended_all remaining contents site came players at_first former base out at [] guests after s t
       (tt, all_own_front s.next (numbers former) (numbers guests) apart)
       (own_back s.next (numbers former) (numbers guests) apart) two all in
       (said.0, own_attended s.next t.next former guests after own said.1)
@@ -1158,7 +1159,7 @@ module _ {S : Type 0} (remaining contents : S → Option (List ℕ)) (players : 
   -- from where browsers are attended on
   attended_on : (at : ℕ) (former : List (Guest S)) (base : Traffic) (out : List MessageValue) (old new : Hall S)
       (t : HasTurned remaining contents at old new) →
-      IsAt players is_paused base out (AreKept remaining contents old.site came former out old.guests.items) t.takes.parted.desk t.takes.parted.wire.items
+      IsAt players at_first base out (AreKept remaining contents old.site came former out old.guests.items) t.takes.parted.desk t.takes.parted.wire.items
       (message_values t.takes.parted.told.items) → AreOwn t.takes.parted.next (numbers (former ++ old.guests.items)) →
       AreAtLine former × AreAtLine old.guests.items →
       IsTurnedTo (behind_front t.hands.front base) (out ++ message_values t.between.talk.told.items) old.site old new
@@ -1169,9 +1170,9 @@ module _ {S : Type 0} (remaining contents : S → Option (List ℕ)) (players : 
       let settled = t.hands.parted_from.settled in
       let writes_first = subst (λ (s : Site). AllZip (IsWritten contents s) t.hands.told t.hands.first) t.takes.site t.hands.writes_first in
       let writes = subst (λ (s : Site). AllZip (IsWritten contents s) t.hands.first t.hands.written) t.takes.site t.hands.writes in
-      let two : IsTalkAt players is_paused base out (Two remaining contents site came players is_paused former base out [] old.guests.items) t.takes.parted =
-      at_with players is_paused base out (AreKept remaining contents site came former out old.guests.items)
-      (Two remaining contents site came players is_paused former base out [] old.guests.items) t.takes.parted.desk t.takes.parted.wire.items
+      let two : IsTalkAt players at_first base out (Two remaining contents site came players at_first former base out [] old.guests.items) t.takes.parted =
+      at_with players at_first base out (AreKept remaining contents site came former out old.guests.items)
+      (Two remaining contents site came players at_first former base out [] old.guests.items) t.takes.parted.desk t.takes.parted.wire.items
       (message_values t.takes.parted.told.items) (λ steps kept. record {
         before = record { served = tt; were = kept.were };
         behind = kept.served;
@@ -1181,14 +1182,14 @@ module _ {S : Type 0} (remaining contents : S → Option (List ℕ)) (players : 
       let one = attended_pass at former base out site old.guests.items passes.first t.takes.parted passes.said.talk own two
       (players_pass remaining site at old.guests.items passes.first (full_asking passes.is_free (next_name old.guests.items) t.takes.parted passes.asks)
       passes.said passes.players) in
-      let said = subst (λ (u : Talk). IsTalkAt players is_paused base out
-      (Two remaining contents site came players is_paused former base out [] t.takes.attended) u
+      let said = subst (λ (u : Talk). IsTalkAt players at_first base out
+      (Two remaining contents site came players at_first former base out [] t.takes.attended) u
       × AreOwn u.next (numbers (former ++ t.takes.attended))) (sym passes.after_is)
       (attended_pass at former base out site passes.first t.takes.attended passes.said.talk passes.last.talk one.1 one.0
       (others_pass remaining site at passes.first t.takes.attended (full_room passes.said.talk) passes.last passes.others)) in
-      let attended : IsAt players is_paused base out (AreKept remaining contents site came former out t.takes.attended) t.between.talk.desk
+      let attended : IsAt players at_first base out (AreKept remaining contents site came former out t.takes.attended) t.between.talk.desk
       t.between.talk.wire.items (message_values t.between.talk.told.items) =
-      at_with players is_paused base out (Two remaining contents site came players is_paused former base out [] t.takes.attended)
+      at_with players at_first base out (Two remaining contents site came players at_first former base out [] t.takes.attended)
       (AreKept remaining contents site came former out t.takes.attended) t.between.talk.desk t.between.talk.wire.items (message_values t.between.talk.told.items)
       (λ steps two. record {
         served = two.behind;
@@ -1198,9 +1199,9 @@ module _ {S : Type 0} (remaining contents : S → Option (List ℕ)) (players : 
           | inr others ↦ elim others [ inl none_such ↦ absurd none_such | inr one ↦ inr one ]
         ];
       }) said.0 in
-      let looked : IsAt players is_paused base out (AreKept remaining contents site came former out t.between.guests.items) t.between.talk.desk
+      let looked : IsAt players at_first base out (AreKept remaining contents site came former out t.between.guests.items) t.between.talk.desk
       t.between.talk.wire.items (message_values t.between.talk.told.items) =
-      at_with players is_paused base out (AreKept remaining contents site came former out t.takes.attended)
+      at_with players at_first base out (AreKept remaining contents site came former out t.takes.attended)
       (AreKept remaining contents site came former out t.between.guests.items) t.between.talk.desk t.between.talk.wire.items (message_values t.between.talk.told.items)
       (λ steps kept. kept_same remaining contents site came former out IsAsBefore
       (λ steps x y one was. served_before remaining contents site came steps out x y one was) (λ x y one. one.still.number) t.takes.looked
@@ -1211,12 +1212,12 @@ module _ {S : Type 0} (remaining contents : S → Option (List ℕ)) (players : 
       let told = gone_out at site former out base t.hands.front t.between.talk t.hands.rest.desk t.hands.rest.wire.items t.hands.rest.replay t.between.guests.items t.hands.told t.hands.delivers
       (written_on contents t.hands.front t.between.server new.server t.between.talk.wire.items t.hands.rest.wire.items t.hands.tells) t.hands.desk looked in
       let none : message_values t.hands.rest.told.items ≡ [] = ap (λ (l : List Message). message_values l) t.hands.none in
-      let at_settled : IsAt players is_paused wrote later (Closing remaining contents site came players is_paused former later settled (λ steps. Unit {0}))
+      let at_settled : IsAt players at_first wrote later (Closing remaining contents site came players at_first former later settled (λ steps. Unit {0}))
       t.hands.rest.desk t.hands.rest.wire.items (message_values t.hands.rest.told.items) =
-      subst (λ (l : List MessageValue). IsAt players is_paused wrote later
-      (Closing remaining contents site came players is_paused former later settled (λ steps. Unit {0})) t.hands.rest.desk t.hands.rest.wire.items l) (sym none)
-      (at_with players is_paused wrote later (AreKept remaining contents site came former later t.hands.told)
-      (Closing remaining contents site came players is_paused former later settled (λ steps. Unit {0})) t.hands.rest.desk t.hands.rest.wire.items []
+      subst (λ (l : List MessageValue). IsAt players at_first wrote later
+      (Closing remaining contents site came players at_first former later settled (λ steps. Unit {0})) t.hands.rest.desk t.hands.rest.wire.items l) (sym none)
+      (at_with players at_first wrote later (AreKept remaining contents site came former later t.hands.told)
+      (Closing remaining contents site came players at_first former later settled (λ steps. Unit {0})) t.hands.rest.desk t.hands.rest.wire.items []
       (λ steps kept. record {
         kept = kept_same remaining contents site came former later IsSettled
             (λ steps x y one was. served_before remaining contents site came steps later x y one.before was) (λ x y one. one.before.still.number) t.hands.written
@@ -1229,7 +1230,7 @@ module _ {S : Type 0} (remaining contents : S → Option (List ℕ)) (players : 
             t.hands.first writes_first steps kept));
         more = tt;
       }) told) in
-      let closed = closed_all remaining contents site came players is_paused former wrote later settled settled (λ steps. Unit {0})
+      let closed = closed_all remaining contents site came players at_first former wrote later settled settled (λ steps. Unit {0})
       (λ s steps was. tt) t.hands.rest new.talk at_settled none t.hands.parted_from.closes in
       let same : numbers settled ≡ numbers t.takes.attended =
       same_numbers IsSettled (λ x y one. one.before.still.number) t.hands.written settled t.hands.parted_from.settles
@@ -1246,11 +1247,11 @@ module _ {S : Type 0} (remaining contents : S → Option (List ℕ)) (players : 
       own_parted t.between.talk.next former settled (own_as t.between.talk.next former t.takes.attended settled same own_said) in
       record {
         former = gone_of settled ++ former;
-        talk = subst (λ (gs : List (Guest S)). IsAt players is_paused wrote later
+        talk = subst (λ (gs : List (Guest S)). IsAt players at_first wrote later
             (AreKept remaining contents site came (gone_of settled ++ former) later gs) new.talk.desk new.talk.wire.items
             (message_values new.talk.told.items)) (sym t.hands.parted_from.stay_is)
-            (at_with players is_paused wrote later
-            (Closing remaining contents site came players is_paused former later settled (λ steps. Unit {0} × AllClosed settled later steps))
+            (at_with players at_first wrote later
+            (Closing remaining contents site came players at_first former later settled (λ steps. Unit {0} × AllClosed settled later steps))
             (AreKept remaining contents site came (gone_of settled ++ former) later (stay_of settled)) new.talk.desk
             new.talk.wire.items (message_values new.talk.told.items)
             (λ steps was. kept_parted remaining contents site came former later settled steps was.kept was.more.1) closed.0.0);
@@ -1266,8 +1267,8 @@ module _ {S : Type 0} (remaining contents : S → Option (List ℕ)) (players : 
       }
 
   turned_on : (o : Outside) (at : ℕ) (old new : Hall S) (t : HasTurned remaining contents at old new) →
-      IsHallAt remaining contents players is_paused o came old →
-      IsHallAt remaining contents players is_paused
+      IsHallAt remaining contents players at_first o came old →
+      IsHallAt remaining contents players at_first
       (behind_turn (bytes_heard remaining old.server t.takes.server_heard old.talk t.takes.heard t.takes.hears) t.takes.is_gone (texts_put t) t.hands.front o) came new
   turned_on o at old new t so_far =
       let site = old.site in
@@ -1277,9 +1278,9 @@ module _ {S : Type 0} (remaining contents : S → Option (List ℕ)) (players : 
       let lines = lines_of_server remaining old.server t.takes.server_heard old.talk t.takes.heard t.takes.hears in
       let base = behind_loss t.takes.is_gone (behind_lines lines traffic) in
       let later = out ++ message_values t.between.talk.told.items in
-      let heard = heard_server remaining contents site came players is_paused former traffic out old.guests.items old.server t.takes.server_heard
+      let heard = heard_server remaining contents site came players at_first former traffic out old.guests.items old.server t.takes.server_heard
       old.talk t.takes.heard so_far.talk t.takes.hears in
-      let gone = parted remaining contents site came players is_paused former (behind_lines lines traffic) out old.guests.items t.takes.is_gone
+      let gone = parted remaining contents site came players at_first former (behind_lines lines traffic) out old.guests.items t.takes.is_gone
       t.takes.server_heard t.between.server t.takes.heard t.takes.parted heard.0 t.takes.parts in
       let own_then : AreOwn t.takes.parted.next (numbers (former ++ old.guests.items)) =
       subst (λ (n : ℕ). AreOwn n (numbers (former ++ old.guests.items))) (sym (gone.1 ∙ heard.1)) so_far.own in
@@ -1294,7 +1295,7 @@ module _ {S : Type 0} (remaining contents : S → Option (List ℕ)) (players : 
             (heard_cut remaining o.taken so_far.heard old.server t.takes.server_heard old.talk t.takes.heard t.takes.hears so_far.cut);
         former = so.former;
         logged = ap (λ (l : List (List ℕ)). l ++ texts_put t) so_far.logged ∙ sym (texts_both out (message_values t.between.talk.told.items));
-        talk = subst (λ (w : Site). IsAt players is_paused (behind_front t.hands.front base) later
+        talk = subst (λ (w : Site). IsAt players at_first (behind_front t.hands.front base) later
             (AreKept remaining contents w came so.former later new.guests.items) new.talk.desk new.talk.wire.items
             (message_values new.talk.told.items)) (sym (t.hands.site ∙ t.takes.site)) so.talk;
         own = so.own;
@@ -1304,22 +1305,22 @@ module _ {S : Type 0} (remaining contents : S → Option (List ℕ)) (players : 
         lined = so.lined;
       }
 
-module _ {S : Type 0} (remaining contents : S → Option (List ℕ)) (players : List Player) (is_paused : Bool) where
+module _ {S : Type 0} (remaining contents : S → Option (List ℕ)) (players : List Player) (at_first : Halted) where
   -- the same of a hall whose site and desk are as they were
   with_guests : (traffic : Traffic) (came more : Before S) (former : List (Guest S)) (old new : Hall S) → new.talk ≡ old.talk →
       new.site ≡ old.site → (out : List MessageValue) →
       ((steps : List Step) → AreKept remaining contents old.site came former out old.guests.items steps →
       AreKept remaining contents old.site more former out new.guests.items steps) →
-      IsAt players is_paused traffic out (AreKept remaining contents old.site came former out old.guests.items) old.talk.desk
+      IsAt players at_first traffic out (AreKept remaining contents old.site came former out old.guests.items) old.talk.desk
       old.talk.wire.items (message_values old.talk.told.items) →
-      IsAt players is_paused traffic out (AreKept remaining contents new.site more former out new.guests.items) new.talk.desk
+      IsAt players at_first traffic out (AreKept remaining contents new.site more former out new.guests.items) new.talk.desk
       new.talk.wire.items (message_values new.talk.told.items)
   with_guests traffic came more former old new talk site out kept so_far =
-      subst (λ (w : Site). IsAt players is_paused traffic out (AreKept remaining contents w more former out new.guests.items)
+      subst (λ (w : Site). IsAt players at_first traffic out (AreKept remaining contents w more former out new.guests.items)
       new.talk.desk new.talk.wire.items (message_values new.talk.told.items)) (sym site)
-      (subst (λ (t : Talk). IsAt players is_paused traffic out (AreKept remaining contents old.site more former out new.guests.items)
+      (subst (λ (t : Talk). IsAt players at_first traffic out (AreKept remaining contents old.site more former out new.guests.items)
       t.desk t.wire.items (message_values t.told.items)) (sym talk)
-      (at_with players is_paused traffic out (AreKept remaining contents old.site came former out old.guests.items)
+      (at_with players at_first traffic out (AreKept remaining contents old.site came former out old.guests.items)
       (AreKept remaining contents old.site more former out new.guests.items) old.talk.desk old.talk.wire.items
       (message_values old.talk.told.items) kept so_far))
 
@@ -1351,7 +1352,7 @@ module _ {S : Type 0} (remaining contents : S → Option (List ℕ)) (players : 
       }
 
   admitted : (o : Outside) (came : Before S) (stream : S) (old new : Hall S) → Admits stream old new →
-      IsHallAt remaining contents players is_paused o came old → IsHallAt remaining contents players is_paused o (came_more stream came) new
+      IsHallAt remaining contents players at_first o came old → IsHallAt remaining contents players at_first o (came_more stream came) new
   admitted o came stream old new admits so_far =
       let former = so_far.former in
       let out = so_far.out in
@@ -1386,7 +1387,7 @@ module _ {S : Type 0} (remaining contents : S → Option (List ℕ)) (players : 
       }
 
   woken : (o : Outside) (came : Before S) (old new : Hall S) → IsWoken old new →
-      IsHallAt remaining contents players is_paused o came old → IsHallAt remaining contents players is_paused o came new
+      IsHallAt remaining contents players at_first o came old → IsHallAt remaining contents players at_first o came new
   woken o came old new wakes so_far =
       let former = so_far.former in
       let out = so_far.out in
@@ -1418,7 +1419,7 @@ module _ {S : Type 0} (remaining contents : S → Option (List ℕ)) (players : 
 
   -- another file is served
   filed : (o : Outside) (came : Before S) (path : List ℕ) (file : Option File) (old new : Hall S) → Files path file old new →
-      IsHallAt remaining contents players is_paused o came old → IsHallAt remaining contents players is_paused o (site_more old.site came) new
+      IsHallAt remaining contents players at_first o came old → IsHallAt remaining contents players at_first o (site_more old.site came) new
   filed o came path file old new files so_far =
       let former = so_far.former in
       let out = so_far.out in
@@ -1431,11 +1432,11 @@ module _ {S : Type 0} (remaining contents : S → Option (List ℕ)) (players : 
         cut = subst (λ s. AreCut o.taken so_far.heard s) (sym files.server) so_far.cut;
         former = former;
         logged = so_far.logged;
-        talk = subst (λ (gs : List (Guest S)). IsAt players is_paused traffic out (AreKept remaining contents new.site more former out gs)
+        talk = subst (λ (gs : List (Guest S)). IsAt players at_first traffic out (AreKept remaining contents new.site more former out gs)
             new.talk.desk new.talk.wire.items (message_values new.talk.told.items)) (sym same)
-            (subst (λ (t : Talk). IsAt players is_paused traffic out (AreKept remaining contents new.site more former out old.guests.items)
+            (subst (λ (t : Talk). IsAt players at_first traffic out (AreKept remaining contents new.site more former out old.guests.items)
             t.desk t.wire.items (message_values t.told.items)) (sym files.talk)
-            (at_with players is_paused traffic out (AreKept remaining contents old.site came former out old.guests.items)
+            (at_with players at_first traffic out (AreKept remaining contents old.site came former out old.guests.items)
             (AreKept remaining contents new.site more former out old.guests.items) old.talk.desk old.talk.wire.items
             (message_values old.talk.told.items) (λ steps kept. record {
               served = all_filed remaining contents old.site came new.site steps out old.guests.items kept.served;
@@ -1451,14 +1452,14 @@ module _ {S : Type 0} (remaining contents : S → Option (List ℕ)) (players : 
   -- of a hall with the same browsers and the same site
   still_at : (traffic : Traffic) (came : Before S) (former : List (Guest S)) (out : List MessageValue) (old new : Hall S) →
       new.guests ≡ old.guests → new.site ≡ old.site →
-      IsAt players is_paused traffic out (AreKept remaining contents old.site came former out old.guests.items) new.talk.desk
+      IsAt players at_first traffic out (AreKept remaining contents old.site came former out old.guests.items) new.talk.desk
       new.talk.wire.items (message_values new.talk.told.items) →
-      IsAt players is_paused traffic out (AreKept remaining contents new.site came former out new.guests.items) new.talk.desk
+      IsAt players at_first traffic out (AreKept remaining contents new.site came former out new.guests.items) new.talk.desk
       new.talk.wire.items (message_values new.talk.told.items)
   still_at traffic came former out old new guests site talk =
-      subst (λ (w : Site). IsAt players is_paused traffic out (AreKept remaining contents w came former out new.guests.items)
+      subst (λ (w : Site). IsAt players at_first traffic out (AreKept remaining contents w came former out new.guests.items)
       new.talk.desk new.talk.wire.items (message_values new.talk.told.items)) (sym site)
-      (subst (λ (gs : List (Guest S)). IsAt players is_paused traffic out (AreKept remaining contents old.site came former out gs)
+      (subst (λ (gs : List (Guest S)). IsAt players at_first traffic out (AreKept remaining contents old.site came former out gs)
       new.talk.desk new.talk.wire.items (message_values new.talk.told.items)) (sym (ap (λ gs. gs.items) guests)) talk)
 
   still_own : (former : List (Guest S)) (old new : Hall S) → new.guests ≡ old.guests → new.talk.next ≡ old.talk.next →
@@ -1471,7 +1472,7 @@ module _ {S : Type 0} (remaining contents : S → Option (List ℕ)) (players : 
   noted : (e : DeskInput) → ((o : Outside) (heard : List (List ℕ)) → behind e (traffic_of o heard) ≡ traffic_of (noticed e o) heard) →
       ((bytes : List ℕ) → kept e bytes ≡ bytes) → IsOfNobody e → IsNoOpening e →
       (o : Outside) (came : Before S) (old new : Hall S) → Notes e old new →
-      IsHallAt remaining contents players is_paused o came old → IsHallAt remaining contents players is_paused (noticed e o) came new
+      IsHallAt remaining contents players at_first o came old → IsHallAt remaining contents players at_first (noticed e o) came new
   noted e same keeps nobody none o came old new notes so_far =
       let traffic = traffic_of o so_far.heard in
       let former = so_far.former in
@@ -1484,9 +1485,9 @@ module _ {S : Type 0} (remaining contents : S → Option (List ℕ)) (players : 
         former = former;
         logged = so_far.logged;
         talk = still_at (traffic_of (noticed e o) so_far.heard) came former out old new notes.guests notes.site
-            (subst (λ (t : Traffic). IsAt players is_paused t out held new.talk.desk new.talk.wire.items (message_values new.talk.told.items)) (same o so_far.heard)
-            (at_more players is_paused traffic out held held _ _ _ _ old.talk.desk new.talk.desk e keeps
-            (goes_by remaining contents old.site came players is_paused former out (message_values old.talk.told.items) e
+            (subst (λ (t : Traffic). IsAt players at_first t out held new.talk.desk new.talk.wire.items (message_values new.talk.told.items)) (same o so_far.heard)
+            (at_more players at_first traffic out held held _ _ _ _ old.talk.desk new.talk.desk e keeps
+            (goes_by remaining contents old.site came players at_first former out (message_values old.talk.told.items) e
             old.guests.items nobody none) so_far.talk notes.talk.steps));
         own = still_own former old new notes.guests notes.talk.next so_far.own;
         whole = subst (λ s. NoLineWaits s) (sym notes.server) so_far.whole;
@@ -1498,8 +1499,8 @@ module _ {S : Type 0} (remaining contents : S → Option (List ℕ)) (players : 
   begun_whole link held = λ goes. subst (λ (l : List ℕ). HasNoFeed l) (sym held) (All-nil (λ b. is_feed b ≡ false))
 
   server_came : (o : Outside) (came : Before S) (stream : S) (old new : Hall S) → ServerComes stream old new →
-      IsHallAt remaining contents players is_paused o came old →
-      IsHallAt remaining contents players is_paused (record { wrote = []; taken = []; presences = true ∷ o.presences; notices = o.notices; put = o.put }) came new
+      IsHallAt remaining contents players at_first o came old →
+      IsHallAt remaining contents players at_first (record { wrote = []; taken = []; presences = true ∷ o.presences; notices = o.notices; put = o.put }) came new
   server_came o came stream old new comes so_far =
       let traffic = traffic_of o so_far.heard in
       let former = so_far.former in
@@ -1512,16 +1513,16 @@ module _ {S : Type 0} (remaining contents : S → Option (List ℕ)) (players : 
         former = former;
         logged = so_far.logged;
         talk = still_at (behind Here traffic) came former out old new comes.guests comes.site
-            (at_anew players is_paused traffic out kept kept _ _ _ _ old.talk.desk new.talk.desk Here (λ bytes. refl)
-            (goes_by remaining contents old.site came players is_paused former out (message_values old.talk.told.items) Here old.guests.items
+            (at_anew players at_first traffic out kept kept _ _ _ _ old.talk.desk new.talk.desk Here (λ bytes. refl)
+            (goes_by remaining contents old.site came players at_first former out (message_values old.talk.told.items) Here old.guests.items
             (λ c. tt) (λ c. refl)) so_far.talk comes.talk.steps comes.talk.nothing);
         own = still_own former old new comes.guests comes.talk.next so_far.own;
         whole = subst (λ s. NoLineWaits s) (sym comes.server) (begun_whole comes.link comes.held);
         lined = still_lined former old new comes.guests so_far.lined;
       }
 
-  begun_at : (site : Site) (now : Hall S) → BeginsHall site players is_paused now →
-      IsHallAt remaining contents players is_paused (record { wrote = []; taken = []; presences = []; notices = []; put = [] }) (record { streams = []; sites = [] }) now
+  begun_at : (site : Site) (now : Hall S) → BeginsHall site players at_first now →
+      IsHallAt remaining contents players at_first (record { wrote = []; taken = []; presences = []; notices = []; put = [] }) (record { streams = []; sites = [] }) now
   begun_at site now begins = record {
     out = [];
     heard = [];
@@ -1545,15 +1546,15 @@ module _ {S : Type 0} (remaining contents : S → Option (List ℕ)) (players : 
     lined = (tt, subst (λ (gs : List (Guest S)). AreAtLine gs) (sym begins.guests) tt);
   }
 
-  life_at : (past : List (Happening S)) (now : Hall S) → IsLife remaining contents players is_paused past now →
-      IsHallAt remaining contents players is_paused (outside_in past) (before_in past) now
+  life_at : (past : List (Happening S)) (now : Hall S) → IsLife remaining contents players at_first past now →
+      IsHallAt remaining contents players at_first (outside_in past) (before_in past) now
   life_at [] now (site, begins) = begun_at site now begins
   life_at (Came stream ∷ past) now (before, life, happens) =
       admitted (outside_in past) (before_in past) stream before now happens (life_at past before life)
   life_at (Woke ∷ past) now (before, life, happens) =
       woken (outside_in past) (before_in past) before now happens (life_at past before life)
   life_at (Filed path file site ∷ past) now (before, life, (happens, is)) =
-      subst (λ (s : Site). IsHallAt remaining contents players is_paused (outside_in past) (site_more s (before_in past)) now) (sym is)
+      subst (λ (s : Site). IsHallAt remaining contents players at_first (outside_in past) (site_more s (before_in past)) now) (sym is)
       (filed (outside_in past) (before_in past) path file before now happens (life_at past before life))
   life_at (Relisted later ∷ past) now (before, life, happens) =
       noted (Renewed later) (λ o heard. refl) (λ bytes. refl) (λ c. tt) (λ c. refl) (outside_in past) (before_in past) before now happens
@@ -1567,17 +1568,17 @@ module _ {S : Type 0} (remaining contents : S → Option (List ℕ)) (players : 
       let o = outside_in past in
       let came = before_in past in
       let t = happens.turned in
-      subst (λ (f : List ℕ). IsHallAt remaining contents players is_paused (behind_turn turn.taken turn.is_gone turn.put f o) came now) happens.front_is
-      (subst (λ (p : List (List ℕ)). IsHallAt remaining contents players is_paused (behind_turn turn.taken turn.is_gone p t.hands.front o) came now) happens.put_is
-      (subst (λ (g : Bool). IsHallAt remaining contents players is_paused (behind_turn turn.taken g (texts_put t) t.hands.front o) came now) happens.gone
-      (subst (λ (bytes : List ℕ). IsHallAt remaining contents players is_paused (behind_turn bytes t.takes.is_gone (texts_put t) t.hands.front o) came now)
-      happens.taken_is (turned_on remaining contents players is_paused came o turn.at before now t (life_at past before life)))))
+      subst (λ (f : List ℕ). IsHallAt remaining contents players at_first (behind_turn turn.taken turn.is_gone turn.put f o) came now) happens.front_is
+      (subst (λ (p : List (List ℕ)). IsHallAt remaining contents players at_first (behind_turn turn.taken turn.is_gone p t.hands.front o) came now) happens.put_is
+      (subst (λ (g : Bool). IsHallAt remaining contents players at_first (behind_turn turn.taken g (texts_put t) t.hands.front o) came now) happens.gone
+      (subst (λ (bytes : List ℕ). IsHallAt remaining contents players at_first (behind_turn bytes t.takes.is_gone (texts_put t) t.hands.front o) came now)
+      happens.taken_is (turned_on remaining contents players at_first came o turn.at before now t (life_at past before life)))))
 
-  pub life_right : (past : List (Happening S)) (now : Hall S) → IsLife remaining contents players is_paused past now →
-      IsRightLife remaining contents players is_paused past now
+  pub life_right : (past : List (Happening S)) (now : Hall S) → IsLife remaining contents players at_first past now →
+      IsRightLife remaining contents players at_first past now
   life_right past now life =
       let at = life_at past now life in
-      let good = run_good players is_paused at.talk.steps (view now.talk.desk) at.talk.run in
+      let good = run_good players at_first at.talk.steps (view now.talk.desk) at.talk.run in
       record {
         steps = at.talk.steps;
         run = at.talk.run;
@@ -1608,17 +1609,17 @@ module _ {S : Type 0} (remaining contents : S → Option (List ℕ)) (players : 
   -- a life, whatever happened, in which just this was noticed
   abbrev IsSomeLife : List DeskInput → Hall S → Type 0
   IsSomeLife noticed now =
-      (past : List (Happening S)) × IsLife remaining contents players is_paused past now × (notices_in past ≡ noticed)
+      (past : List (Happening S)) × IsLife remaining contents players at_first past now × (notices_in past ≡ noticed)
 
   reached_life : (noticed : List DeskInput) (old new : Hall S) → IsReached old new → IsSomeLife noticed old → IsSomeLife noticed new
   reached_life noticed old new (inl same) (past, life, is) =
-      (past, subst (λ (h : Hall S). IsLife remaining contents players is_paused past h) (sym same) life, is)
+      (past, subst (λ (h : Hall S). IsLife remaining contents players at_first past h) (sym same) life, is)
   reached_life noticed old new (inr (none, (stream, comes))) (past, life, is) = (ServerCame stream ∷ past, (old, life, comes), is)
 
   welcomed_life : (noticed : List DeskInput) (at : ℕ) (comers : List (Comer S)) (old new : Hall S) → AreAdmitted at comers old new →
       IsSomeLife noticed old → IsSomeLife noticed new
   welcomed_life noticed at [] old new same (past, life, is) =
-      (past, subst (λ (h : Hall S). IsLife remaining contents players is_paused past h) (sym same) life, is)
+      (past, subst (λ (h : Hall S). IsLife remaining contents players at_first past h) (sym same) life, is)
   welcomed_life noticed at (comer ∷ comers) old new (between, are, is) so_far =
       let so = welcomed_life noticed at comers old between are so_far in
       (Came comer.stream ∷ so.0, (between, so.1, is.admits), so.2)
@@ -1640,7 +1641,7 @@ module _ {S : Type 0} (remaining contents : S → Option (List ℕ)) (players : 
         so.2,
       )
 
-  lobby_life : (passed : List Passing) (now : Hall S) → IsLobbyLife remaining contents players is_paused passed now →
+  lobby_life : (passed : List Passing) (now : Hall S) → IsLobbyLife remaining contents players at_first passed now →
       IsSomeLife (noticed_in passed) now
   lobby_life [] now begins = ([], begins, refl)
   lobby_life (TurnAt at ∷ passed) now (before, life, turn) =
@@ -1658,9 +1659,9 @@ module _ {S : Type 0} (remaining contents : S → Option (List ℕ)) (players : 
       let so = lobby_life passed before life in
       (Woke ∷ so.0, (before, so.1, wakes), so.2)
 
-  pub lobby_right : (passed : List Passing) (now : Hall S) → IsLobbyLife remaining contents players is_paused passed now →
-      (past : List (Happening S)) × IsLife remaining contents players is_paused past now × (notices_in past ≡ noticed_in passed)
-      × IsRightLife remaining contents players is_paused past now
+  pub lobby_right : (passed : List Passing) (now : Hall S) → IsLobbyLife remaining contents players at_first passed now →
+      (past : List (Happening S)) × IsLife remaining contents players at_first past now × (notices_in past ≡ noticed_in passed)
+      × IsRightLife remaining contents players at_first past now
   lobby_right passed now life =
       let so = lobby_life passed now life in
       (so.0, so.1, so.2, life_right so.0 now so.1)

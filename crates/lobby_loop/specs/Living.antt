@@ -3,6 +3,7 @@ use Rattle.std.specs.Prelude.{ℕ, ◌≡◌, ◌≢◌, ◌<◌, ◌⊎◌, Boo
 use Rattle.std.specs.List.{AllZip, AllByRecursion}
 use Rattle.text_lines.specs.Lines.{HasNoFeed}
 use Rattle.lobby_words.specs.declared.players.Player.{Player}
+use Rattle.lobby_players.specs.Halts.{Halted}
 use Rattle.lobby_players.specs.declared.halts.Finding.{Finding}
 use Rattle.lobby_desk.specs.Events.{DeskInput, Heard, ServerTurned, Renewed, Found, MessageValue, message_values}
 use Rattle.lobby_desk.specs.Lines.{bytes_of}
@@ -103,13 +104,13 @@ Happens remaining contents (Relisted players) old new = Renews players old new
 Happens remaining contents (Learned finding) old new = Finds finding old new
 Happens remaining contents (Turned turn) old new = TurnsBy remaining contents turn old new
 
--- a hall that begins with these players, with entries paused or not, and what happened to it, the newest first
-abbrev pub IsLife : {S : Type 0} → (S → Option (List ℕ)) → (S → Option (List ℕ)) → List Player → Bool
+-- a hall that begins with these players, with this halted and announced, and what happened to it, the newest first
+abbrev pub IsLife : {S : Type 0} → (S → Option (List ℕ)) → (S → Option (List ℕ)) → List Player → Halted
     → List (Happening S)
     → Hall S → Type 0
-IsLife remaining contents players is_paused [] now = (site : Site) × BeginsHall site players is_paused now
-IsLife {S} remaining contents players is_paused (h ∷ past) now =
-    (before : Hall S) × IsLife remaining contents players is_paused past before
+IsLife remaining contents players at_first [] now = (site : Site) × BeginsHall site players at_first now
+IsLife {S} remaining contents players at_first (h ∷ past) now =
+    (before : Hall S) × IsLife remaining contents players at_first past before
     × Happens remaining contents h before now
 
 -- what was written to the server's connection, once it is lost or not
@@ -276,10 +277,10 @@ NoLineWaits (Some link) = HoldsNoLine link
 -- for its number was told it or waits for it behind that, which only an answer to `line G` does that was not there
 -- yet and what came behind it. Its requests have the answers of the sites that were served.
 pub record IsRightLife {S : Type 0} (remaining contents : S → Option (List ℕ)) (players : List Player)
-    (is_paused : Bool)
+    (at_first : Halted)
     (past : List (Happening S)) (now : Hall S) : Type 0 where
   pub steps : List Step
-  pub run : IsRun players is_paused steps (view now.talk.desk)
+  pub run : IsRun players at_first steps (view now.talk.desk)
   pub lines : AllRight players steps
   pub tells : AllTold players steps
   pub sent : sent_in steps ≡ written_in past ++ now.talk.wire.items
@@ -311,21 +312,21 @@ pub data Passing : Type 0 where
   Rested : Passing
 
 -- a lobby that begins so, and what passed, the newest first
-abbrev pub IsLobbyLife : {S : Type 0} → (S → Option (List ℕ)) → (S → Option (List ℕ)) → List Player → Bool
+abbrev pub IsLobbyLife : {S : Type 0} → (S → Option (List ℕ)) → (S → Option (List ℕ)) → List Player → Halted
     → List Passing → Hall S
     → Type 0
-IsLobbyLife remaining contents players is_paused [] now = (site : Site) × BeginsHall site players is_paused now
-IsLobbyLife {S} remaining contents players is_paused (TurnAt at ∷ past) now =
-    (before : Hall S) × IsLobbyLife remaining contents players is_paused past before
+IsLobbyLife remaining contents players at_first [] now = (site : Site) × BeginsHall site players at_first now
+IsLobbyLife {S} remaining contents players at_first (TurnAt at ∷ past) now =
+    (before : Hall S) × IsLobbyLife remaining contents players at_first past before
     × IsLobbyTurn remaining contents at before now
-IsLobbyLife {S} remaining contents players is_paused (Rested ∷ past) now =
-    (before : Hall S) × IsLobbyLife remaining contents players is_paused past before × IsWoken before now
-IsLobbyLife {S} remaining contents players is_paused (Changed path file ∷ past) now =
-    (before : Hall S) × IsLobbyLife remaining contents players is_paused past before × Files path file before now
-IsLobbyLife {S} remaining contents players is_paused (Enrolled later ∷ past) now =
-    (before : Hall S) × IsLobbyLife remaining contents players is_paused past before × Renews later before now
-IsLobbyLife {S} remaining contents players is_paused (Noticed finding ∷ past) now =
-    (before : Hall S) × IsLobbyLife remaining contents players is_paused past before × Finds finding before now
+IsLobbyLife {S} remaining contents players at_first (Rested ∷ past) now =
+    (before : Hall S) × IsLobbyLife remaining contents players at_first past before × IsWoken before now
+IsLobbyLife {S} remaining contents players at_first (Changed path file ∷ past) now =
+    (before : Hall S) × IsLobbyLife remaining contents players at_first past before × Files path file before now
+IsLobbyLife {S} remaining contents players at_first (Enrolled later ∷ past) now =
+    (before : Hall S) × IsLobbyLife remaining contents players at_first past before × Renews later before now
+IsLobbyLife {S} remaining contents players at_first (Noticed finding ∷ past) now =
+    (before : Hall S) × IsLobbyLife remaining contents players at_first past before × Finds finding before now
 
 -- that the players are others, and what is found that halts games, the newest first
 abbrev pub noticed_in : List Passing → List DeskInput

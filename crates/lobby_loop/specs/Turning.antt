@@ -10,6 +10,7 @@ use Rattle.lobby_web.specs.declared.site.Site.{Site}
 use Rattle.lobby_guests.specs.declared.guest.Guest.{Guest}
 use Rattle.lobby_talk.specs.declared.link.Link.{Link}
 use Rattle.lobby_talk.specs.declared.talk.Talk.{Talk}
+use Rattle.lobby_players.specs.Halts.{Halted}
 use Rattle.lobby_talk.specs.Talking.{Begins, MovesAnew}
 use Rattle.lobby_guests.specs.Origins.{IsPlain, IsFrom}
 use Rattle.lobby_guests.specs.Paces.{paid_by}
@@ -54,11 +55,11 @@ TellsServer {S} contents front (Some link) server old new =
     × IsKept link after
 
 -- Nobody is connected, nothing was said, nobody has paid for an act, and nobody's time counts from any moment but when
--- he came. Entries are paused, or not.
-pub record BeginsHall {S : Type 0} (site : Site) (players : List Player) (is_paused : Bool)
+-- he came. This is halted and announced.
+pub record BeginsHall {S : Type 0} (site : Site) (players : List Player) (at_first : Halted)
     (now : Hall S) : Type 0 where
   pub site_is : now.site ≡ site
-  pub talk : Begins players is_paused now.talk
+  pub talk : Begins players at_first now.talk
   pub guests : now.guests.items ≡ []
   pub server : now.server ≡ None
   pub away : now.away_at ≡ 0

@@ -1,6 +1,7 @@
 //! What is promised of whatever happens.
 ghost use Rattle.std.specs.Prelude.{ℕ, ◌≡◌, Bool, List, Option};
 ghost use Rattle.lobby_words.specs.declared.players.Player.{Player};
+ghost use Rattle.lobby_players.specs.Halts.{Halted};
 ghost use Rattle.lobby_desk.specs.Events.{MessageValue};
 ghost use Rattle.lobby_desk.specs.History.{Step};
 ghost use Rattle.lobby_web.specs.declared.site.Site.{Site};
@@ -23,20 +24,20 @@ ghost use Rattle.lobby_loop.specs.Speaking.{Speaks};
 /// nothing else, but those at the end that wait, the first of them an answer to `line G` that is not there yet; and the
 /// log has had all texts for it among what went out, likewise.
 pub fn law_of_halls<S>()
-    ensures { (remaining contents : S → Option (List ℕ)) (players : List Player) (is_paused : Bool)
+    ensures { (remaining contents : S → Option (List ℕ)) (players : List Player) (at_first : Halted)
         (past : List (Happening S))
-        (now : Hall S) → IsLife remaining contents players is_paused past now
-        → IsRightLife remaining contents players is_paused past now }
+        (now : Hall S) → IsLife remaining contents players at_first past now
+        → IsRightLife remaining contents players at_first past now }
 {}
 
 /// Whatever passes at a lobby, by its turns and the rests between them: all that happened to its hall is such a life,
 /// and what it noticed of other players and of what halts games is what passed.
 pub fn law_of_lobbies<S>()
-    ensures { (remaining contents : S → Option (List ℕ)) (players : List Player) (is_paused : Bool)
+    ensures { (remaining contents : S → Option (List ℕ)) (players : List Player) (at_first : Halted)
         (passed : List Passing)
-        (now : Hall S) → IsLobbyLife remaining contents players is_paused passed now →
-        (past : List (Happening S)) × IsLife remaining contents players is_paused past now
-        × (notices_in past ≡ noticed_in passed) × IsRightLife remaining contents players is_paused past now }
+        (now : Hall S) → IsLobbyLife remaining contents players at_first passed now →
+        (past : List (Happening S)) × IsLife remaining contents players at_first past now
+        × (notices_in past ≡ noticed_in passed) × IsRightLife remaining contents players at_first past now }
 {}
 
 /// Of each browser of which such a life says what was done at its connection: the texts that the desk was told under

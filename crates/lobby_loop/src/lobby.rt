@@ -178,7 +178,7 @@ impl Lobby {
     /// behind that proxy. The system's error where it cannot be watched.
     pub fn new(net: &impl Net, alloc: Global, beginning: Beginning) -> io::Result<Lobby>
         ensures begins { IfOk result (λ lobby.
-            BeginsHall beginning.site beginning.players.items beginning.halts.is_paused lobby.hall) }
+            BeginsHall beginning.site beginning.players.items (halted beginning.halts) lobby.hall) }
         ensures halts { IfOk result (λ lobby. lobby.hall.talk.desk.halts ≡ beginning.halts) }
         ensures limits { IfOk result (λ lobby. lobby.hall.talk.desk.limits ≡ beginning.limits) }
         ensures proxy { IfOk result (λ lobby. lobby.hall.proxy ≡ beginning.proxy) }

@@ -24,9 +24,9 @@ pub record IsTalkAsBefore (old new : Talk) : Type 0 where
   pub told : new.told ≡ old.told
   pub next : new.next ≡ old.next
 
--- A desk that begins, with entries paused or not: nothing was said, nothing is to go, and no number was given.
-pub record Begins (players : List Player) (is_paused : Bool) (now : Talk) : Type 0 where
-  pub desk : BeginsDesk is_paused now.desk
+-- A desk that begins, with this halted and announced: nothing was said, nothing is to go, and no number was given.
+pub record Begins (players : List Player) (at_first : Halted) (now : Talk) : Type 0 where
+  pub desk : BeginsDesk at_first now.desk
   pub players_are : now.desk.players.items ≡ players
   pub wire : now.wire.items ≡ []
   pub told : now.told.items ≡ []
