@@ -51,7 +51,7 @@ abbrev pub reason_of : Option Decision → List ℕ
 reason_of None = []
 reason_of (Some d) = string_bytes d.ground.reason
 
--- what a verdict is in a report
+-- What a verdict is in a report. (One without a result of its own is none that counts, and does not come here.)
 abbrev pub score_of : Verdict → Score
 score_of verdicts.White = scores.White
 score_of verdicts.Black = scores.Black
@@ -67,7 +67,8 @@ score_of verdicts.BlackUnrated = scores.Black
 score_of verdicts.DrawUnrated = scores.Draw
 score_of verdicts.AsPlayed = scores.Open
 
--- A verdict is one of a game that was played, but where somebody did not come, or not both sides made a move.
+-- A verdict is one of a game that was played, but where somebody did not come, or not both sides made a move. (Nor does
+-- that one come here.)
 abbrev pub play_of : Verdict → Play
 play_of verdicts.White = plays.Board
 play_of verdicts.Black = plays.Board
