@@ -37,7 +37,7 @@ use Rattle.lobby_talk.specs.Lines.{bytes_of as bytes_before, AreHeard}
 use Rattle.lobby_talk.specs.Held.{HoldsNoLine, IsKept}
 use Rattle.lobby_loop.specs.Turning.{BeginsHall, Admits, ServerComes, IsServerAsBefore, HearsServer, bytes_heard, PartsFromServer, TellsServer, HasTurned, texts_put, Comer, AreAdmitted, IsReached, IsLobbyTurn, is_look_time}
 use Rattle.lobby_loop.specs.Doing.{Gave, Spot, spot, DoesAt, all_tells, around, IsServed, AreServed, WereServed, AreAtLine, Before}
-use Rattle.lobby_loop.specs.Living.{Happening, Came, Woke, ServerCame, Turned, IsWoken, IsLife, left, written_in, taken_in, put_in, lost_if, presences_in, kept, sent_in, line_more, lines_heard, presence_more, presences_told, notices_in, noticed_in, notice_more, notices_told, IsHeld, IsOther, HasNone, IsOneOf, AreKnown, IsOwn, AreOwn, numbers, NoLineWaits, IsRightLife, Passing, TurnAt, Rested, IsLobbyLife, Filed, Files, before_in, Changed, Relisted, Learned, Notes, Enrolled, Noticed}
+use Rattle.lobby_loop.specs.Living.{Happening, Came, Woke, ServerCame, Turned, IsWoken, IsLife, left, written_in, taken_in, put_in, lost_if, kept, sent_in, line_more, lines_heard, notices_in, learned_in, noticed_in, notice_more, notices_told, IsHeld, IsOther, HasNone, IsOneOf, AreKnown, IsOwn, AreOwn, numbers, NoLineWaits, IsRightLife, Passing, TurnAt, Rested, IsLobbyLife, Filed, Files, before_in, Changed, Relisted, Learned, Notes, Enrolled, Noticed}
 use Rattle.lobby_loop.proofs.Lined.{same_line, lines_by, lines_filter, lines_both, turn_lines}
 use Rattle.lobby_loop.proofs.Serving.{IsApart, ApartFrom, AreApart, served_before, served_read, served_looked, served_written, served_told, served_caught_up, gave_nothing, gave_again, gave_early, gave_opened, gave_text, all_served_on, all_served_zip, all_served_filter, all_served_more, all_came, served_new, ClosedIf, AllClosed, closed_if_on, all_were_on, all_were_out, all_were_came, all_let_go, came_more, site_more, all_filed, all_were_filed}
 
@@ -48,7 +48,6 @@ use Rattle.lobby_loop.proofs.Serving.{IsApart, ApartFrom, AreApart, served_befor
 pub record Traffic : Type 0 where
   pub wrote : List ℕ
   pub heard : List (List ℕ)
-  pub presences : List Bool
   pub notices : List DeskInput
 
 -- the same behind an event
@@ -56,7 +55,6 @@ abbrev behind : DeskInput → Traffic → Traffic
 behind e traffic = record {
   wrote = kept e traffic.wrote;
   heard = line_more e traffic.heard;
-  presences = presence_more e traffic.presences;
   notices = notice_more e traffic.notices;
 }
 
@@ -69,7 +67,6 @@ pub record IsAt (players : List Player) (at_first : Halted) (traffic : Traffic) 
   pub players_are : desk.players.items ≡ players_in players steps
   pub sent : sent_in steps ≡ traffic.wrote ++ wire
   pub heard : lines_heard steps ≡ traffic.heard
-  pub presences : presences_told steps ≡ traffic.presences
   pub notices : notices_told steps ≡ traffic.notices
   pub tells : all_tells steps ≡ out ++ told
   pub holds : K steps
@@ -104,7 +101,6 @@ at_by players at_first traffic out K L before after from to t u old new e goes s
   players_are = s.players ∙ ap (players_now e) so_far.players_are;
   sent = sent;
   heard = ap (λ (lines : List (List ℕ)). line_more e lines) so_far.heard;
-  presences = ap (λ (l : List Bool). presence_more e l) so_far.presences;
   notices = ap (λ (l : List DeskInput). notice_more e l) so_far.notices;
   tells = told_more out t s.tells u so_far.steps so_far.tells s.told;
   holds = goes so_far.steps (record { event = e; lines = s.lines; tells = s.tells }) refl so_far.tells so_far.holds;
@@ -138,7 +134,6 @@ at_with players at_first traffic out K L desk wire told more so_far = record {
   players_are = so_far.players_are;
   sent = so_far.sent;
   heard = so_far.heard;
-  presences = so_far.presences;
   notices = so_far.notices;
   tells = so_far.tells;
   holds = more so_far.steps so_far.holds;
@@ -183,16 +178,16 @@ all_apart e nobody (n ∷ ns) = (nobody_apart e nobody n, all_apart e nobody ns)
 
 abbrev behind_loss : Bool → Traffic → Traffic
 behind_loss gone traffic =
-    record { wrote = left gone traffic.wrote; heard = traffic.heard; presences = lost_if gone traffic.presences; notices = traffic.notices }
+    record { wrote = left gone traffic.wrote; heard = traffic.heard; notices = lost_if gone traffic.notices }
 
 -- behind lines that were heard, and what more is written
 abbrev behind_lines : List (List ℕ) → Traffic → Traffic
 behind_lines lines traffic =
-    record { wrote = traffic.wrote; heard = lines ++ traffic.heard; presences = traffic.presences; notices = traffic.notices }
+    record { wrote = traffic.wrote; heard = lines ++ traffic.heard; notices = traffic.notices }
 
 abbrev behind_front : List ℕ → Traffic → Traffic
 behind_front front traffic =
-    record { wrote = traffic.wrote ++ front; heard = traffic.heard; presences = traffic.presences; notices = traffic.notices }
+    record { wrote = traffic.wrote ++ front; heard = traffic.heard; notices = traffic.notices }
 
 -- the lines that came of the server, the newest first
 abbrev lines_of_server : {S : Type 0} → (remaining : S → Option (List ℕ)) → (server after : Option (Link S)) → (old new : Talk) →
@@ -1016,7 +1011,6 @@ woken_held (Some link) after (next, is, stream, kept) rest held =
 pub record Outside : Type 0 where
   pub wrote : List ℕ
   pub taken : List ℕ
-  pub presences : List Bool
   pub notices : List DeskInput
   pub put : List (List ℕ)
 
@@ -1024,27 +1018,25 @@ abbrev outside_in : {S : Type 0} → List (Happening S) → Outside
 outside_in past = record {
   wrote = written_in past;
   taken = taken_in past;
-  presences = presences_in past;
   notices = notices_in past;
   put = put_in past;
 }
 
 -- behind what the desk is told of players or of what halts games
 abbrev noticed : DeskInput → Outside → Outside
-noticed e o = record { wrote = o.wrote; taken = o.taken; presences = o.presences; notices = e ∷ o.notices; put = o.put }
+noticed e o = record { wrote = o.wrote; taken = o.taken; notices = e ∷ o.notices; put = o.put }
 
 -- behind a turn
 abbrev behind_turn : List ℕ → Bool → List (List ℕ) → List ℕ → Outside → Outside
 behind_turn taken gone put front o = record {
   wrote = left gone o.wrote ++ front;
   taken = o.taken ++ taken;
-  presences = lost_if gone o.presences;
-  notices = o.notices;
+  notices = lost_if gone o.notices;
   put = o.put ++ put;
 }
 
 abbrev traffic_of : Outside → List (List ℕ) → Traffic
-traffic_of o heard = record { wrote = o.wrote; heard = heard; presences = o.presences; notices = o.notices }
+traffic_of o heard = record { wrote = o.wrote; heard = heard; notices = o.notices }
 
 -- what holds of a hall, where this was outside and browsers came by these streams
 pub record IsHallAt {S : Type 0} (remaining contents : S → Option (List ℕ)) (players : List Player) (at_first : Halted) (o : Outside)
@@ -1122,7 +1114,6 @@ module _ {S : Type 0} (remaining contents : S → Option (List ℕ)) (players : 
     players_are = ap (λ (d : Desk). d.players.items) same ∙ so_far.players_are;
     sent = so_far.sent ∙ (ap (λ (bytes : List ℕ). base.wrote ++ bytes) split ∙ sym (append_assoc base.wrote front wire));
     heard = so_far.heard;
-    presences = so_far.presences;
     notices = so_far.notices;
     tells = so_far.tells ∙ sym (append-nil (out ++ message_values said.told.items));
     holds = kept_same remaining contents site came former (out ++ message_values said.told.items) (IsCaughtUp at)
@@ -1500,7 +1491,7 @@ module _ {S : Type 0} (remaining contents : S → Option (List ℕ)) (players : 
 
   server_came : (o : Outside) (came : Before S) (stream : S) (old new : Hall S) → ServerComes stream old new →
       IsHallAt remaining contents players at_first o came old →
-      IsHallAt remaining contents players at_first (record { wrote = []; taken = []; presences = true ∷ o.presences; notices = o.notices; put = o.put }) came new
+      IsHallAt remaining contents players at_first (record { wrote = []; taken = []; notices = Here ∷ o.notices; put = o.put }) came new
   server_came o came stream old new comes so_far =
       let traffic = traffic_of o so_far.heard in
       let former = so_far.former in
@@ -1522,7 +1513,7 @@ module _ {S : Type 0} (remaining contents : S → Option (List ℕ)) (players : 
       }
 
   begun_at : (site : Site) (now : Hall S) → BeginsHall site players at_first now →
-      IsHallAt remaining contents players at_first (record { wrote = []; taken = []; presences = []; notices = []; put = [] }) (record { streams = []; sites = [] }) now
+      IsHallAt remaining contents players at_first (record { wrote = []; taken = []; notices = []; put = [] }) (record { streams = []; sites = [] }) now
   begun_at site now begins = record {
     out = [];
     heard = [];
@@ -1535,7 +1526,6 @@ module _ {S : Type 0} (remaining contents : S → Option (List ℕ)) (players : 
       players_are = begins.talk.players_are;
       sent = sym begins.talk.wire;
       heard = refl;
-      presences = refl;
       notices = refl;
       tells = sym (ap message_values begins.talk.told);
       holds = subst (λ (gs : List (Guest S)). AreKept remaining contents now.site (record { streams = []; sites = [] }) [] [] gs []) (sym begins.guests)
@@ -1590,7 +1580,6 @@ module _ {S : Type 0} (remaining contents : S → Option (List ℕ)) (players : 
         feeds = subst (λ (lines : List (List ℕ)). AllByRecursion HasNoFeed lines) (sym at.talk.heard) at.cut.feeds;
         held = at.cut.held;
         whole = at.whole;
-        presences = at.talk.presences;
         notices = at.talk.notices;
         out = at.out;
         told = at.talk.tells;
@@ -1609,7 +1598,7 @@ module _ {S : Type 0} (remaining contents : S → Option (List ℕ)) (players : 
   -- a life, whatever happened, in which just this was noticed
   abbrev IsSomeLife : List DeskInput → Hall S → Type 0
   IsSomeLife noticed now =
-      (past : List (Happening S)) × IsLife remaining contents players at_first past now × (notices_in past ≡ noticed)
+      (past : List (Happening S)) × IsLife remaining contents players at_first past now × (learned_in past ≡ noticed)
 
   reached_life : (noticed : List DeskInput) (old new : Hall S) → IsReached old new → IsSomeLife noticed old → IsSomeLife noticed new
   reached_life noticed old new (inl same) (past, life, is) =
@@ -1660,7 +1649,7 @@ module _ {S : Type 0} (remaining contents : S → Option (List ℕ)) (players : 
       (Woke ∷ so.0, (before, so.1, wakes), so.2)
 
   pub lobby_right : (passed : List Passing) (now : Hall S) → IsLobbyLife remaining contents players at_first passed now →
-      (past : List (Happening S)) × IsLife remaining contents players at_first past now × (notices_in past ≡ noticed_in passed)
+      (past : List (Happening S)) × IsLife remaining contents players at_first past now × (learned_in past ≡ noticed_in passed)
       × IsRightLife remaining contents players at_first past now
   lobby_right passed now life =
       let so = lobby_life passed now life in

@@ -132,23 +132,26 @@ taken_in (ServerCame stream ∷ past) = []
 taken_in (Turned turn ∷ past) = taken_in past ++ turn.taken
 taken_in (_ ∷ past) = taken_in past
 
--- that the server is there, and that its connection is lost, the newest first
-abbrev pub lost_if : Bool → List Bool → List Bool
-lost_if true before = false ∷ before
+-- that the server is there, that its connection is lost, that the players are others, and what is found that halts
+-- games, the newest first
+abbrev pub lost_if : Bool → List DeskInput → List DeskInput
+lost_if true before = ServerTurned false ∷ before
 lost_if false before = before
 
-abbrev pub presences_in : {S : Type 0} → List (Happening S) → List Bool
-presences_in [] = []
-presences_in (ServerCame stream ∷ past) = true ∷ presences_in past
-presences_in (Turned turn ∷ past) = lost_if turn.is_gone (presences_in past)
-presences_in (_ ∷ past) = presences_in past
-
--- that the players are others, and what is found that halts games, the newest first
 abbrev pub notices_in : {S : Type 0} → List (Happening S) → List DeskInput
 notices_in [] = []
+notices_in (ServerCame stream ∷ past) = ServerTurned true ∷ notices_in past
+notices_in (Turned turn ∷ past) = lost_if turn.is_gone (notices_in past)
 notices_in (Relisted players ∷ past) = Renewed players ∷ notices_in past
 notices_in (Learned finding ∷ past) = Found finding ∷ notices_in past
 notices_in (_ ∷ past) = notices_in past
+
+-- of these those of players and of what halts games
+abbrev pub learned_in : {S : Type 0} → List (Happening S) → List DeskInput
+learned_in [] = []
+learned_in (Relisted players ∷ past) = Renewed players ∷ learned_in past
+learned_in (Learned finding ∷ past) = Found finding ∷ learned_in past
+learned_in (_ ∷ past) = learned_in past
 
 -- all texts that the log has, in their order
 abbrev pub put_in : {S : Type 0} → List (Happening S) → List (List ℕ)
@@ -180,17 +183,9 @@ abbrev pub lines_heard : List Step → List (List ℕ)
 lines_heard [] = []
 lines_heard (s ∷ past) = line_more s.event (lines_heard past)
 
--- what the desk was told of whether the server is there, the newest first
-abbrev pub presence_more : DeskInput → List Bool → List Bool
-presence_more (ServerTurned is_here) before = is_here ∷ before
-presence_more _ before = before
-
-abbrev pub presences_told : List Step → List Bool
-presences_told [] = []
-presences_told (s ∷ past) = presence_more s.event (presences_told past)
-
--- what the desk was told of the players and of what halts games, the newest first
+-- what the desk was told of whether the server is there, of the players and of what halts games, the newest first
 abbrev pub notice_more : DeskInput → List DeskInput → List DeskInput
+notice_more (ServerTurned is_here) before = ServerTurned is_here ∷ before
 notice_more (Renewed players) before = Renewed players ∷ before
 notice_more (Found finding) before = Found finding ∷ before
 notice_more _ before = before
@@ -269,8 +264,8 @@ NoLineWaits (Some link) = HoldsNoLine link
 -- every message to a connection is right. What was written to the server since its connection began is a front of
 -- the bytes of these lines, and the rest of them is to go. The lines that the desk heard since then stand in front
 -- of all bytes that came of the server, and where its connection goes on no whole line of it waits; the desk was
--- told that the server is there or gone just where it was, and of other players and of what halts games just what was
--- so, each once and in their order. What the desk told connections went out of its hands, and
+-- told that the server is there or gone, of other players and of what halts games just what was so, each once and in
+-- their order. What the desk told connections went out of its hands, and
 -- the rest of it is to go; of what went out the log has all texts for it, each once and in their order. Of all
 -- browsers that came, those that were let go too, no two have one connection's number, and the desk was told of no
 -- connection but theirs; the desk has, under its number, all that a browser said, and of what went out all that is
@@ -289,7 +284,6 @@ pub record IsRightLife {S : Type 0} (remaining contents : S → Option (List ℕ
   pub feeds : AllByRecursion HasNoFeed (lines_heard steps)
   pub held : IsHeld now.server rest
   pub whole : NoLineWaits now.server
-  pub presences : presences_told steps ≡ presences_in past
   pub notices : notices_told steps ≡ notices_in past
   pub out : List MessageValue
   pub told : all_tells steps ≡ out ++ message_values now.talk.told.items

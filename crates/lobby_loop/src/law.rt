@@ -10,14 +10,14 @@ ghost use Rattle.lobby_loop.specs.Doing.{Spot, Before, around, IsServed};
 ghost use Rattle.std.specs.List.{AllZip};
 ghost use Rattle.lobby_guests.specs.Guests.{StaysLost};
 ghost use Rattle.lobby_loop.specs.Turning.{HasTurned};
-ghost use Rattle.lobby_loop.specs.Living.{Happening, IsLife, IsRightLife, Passing, IsLobbyLife, notices_in, noticed_in};
+ghost use Rattle.lobby_loop.specs.Living.{Happening, IsLife, IsRightLife, Passing, IsLobbyLife, learned_in, noticed_in};
 ghost use Rattle.lobby_loop.specs.Speaking.{Speaks};
 
 /// Whatever browsers and a server come, say and leave, by streams that give and take what they like: the desk has taken
 /// a run of steps, of which `lobby_desk::law_of_lines`, `law_of_names`, `law_of_tellings` and `law_of_logs` hold. The
 /// bytes that were written to the server since its connection began are a front of the bytes of the run's lines since
 /// then, and the lines that the desk heard since then are those in front of all bytes that came of it. It was told that
-/// the server is there or gone just where it was, and of other players and of what halts games just what was so. No two
+/// the server is there or gone, of other players and of what halts games just what was so, in this order. No two
 /// browsers that came have one number at the desk, and it knows of no connection but theirs; it has, under a browser's
 /// number, each text that came of it, once and in their order, and nothing else; and of all that went out of the desk's
 /// hands while it was there a browser was to be told each message that is for its number, once and in their order, and
@@ -31,13 +31,13 @@ pub fn law_of_halls<S>()
 {}
 
 /// Whatever passes at a lobby, by its turns and the rests between them: all that happened to its hall is such a life,
-/// and what it noticed of other players and of what halts games is what passed.
+/// and what it was told of other players and of what halts games is what passed.
 pub fn law_of_lobbies<S>()
     ensures { (remaining contents : S → Option (List ℕ)) (players : List Player) (at_first : Halted)
         (passed : List Passing)
         (now : Hall S) → IsLobbyLife remaining contents players at_first passed now →
         (past : List (Happening S)) × IsLife remaining contents players at_first past now
-        × (notices_in past ≡ noticed_in passed) × IsRightLife remaining contents players at_first past now }
+        × (learned_in past ≡ noticed_in passed) × IsRightLife remaining contents players at_first past now }
 {}
 
 /// Of each browser of which such a life says what was done at its connection: the texts that the desk was told under
