@@ -9,7 +9,7 @@ use Rattle.chess_board.specs.Next.{next}
 use Rattle.chess_board.proofs.LineLemmas.{position_after-push}
 use Rattle.text_pgn.specs.Game.{Plays, ArePlayed, StartsAt, TellsNone, fen_in, lines_of, words_in}
 use Rattle.text_pgn.specs.Answer.{head, row, PutsRow, PutsRows, IsLineAnswer}
-use Rattle.text_pgn.specs.Replaying.{IsUnderWay, IsWhole, Runs, StopsWithin, words_left}
+use Rattle.text_pgn.specs.Replaying.{IsUnderWay, IsWhole, Goes, Runs, StopsWithin, words_left}
 use Rattle.text_pgn.specs.declared.replay.Replay.{Replay}
 use Rattle.text_pgn.proofs.Played.{runs_more, runs_end, runs_one, runs_stop}
 use Rattle.text_pgn.proofs.Spelled.{rows_none, rows_put}
@@ -45,7 +45,7 @@ begins game pgn replay begun only words none text = record {
 }
 
 -- one word is played
-pub goes_on : (game : ℕ) (pgn : List ℕ) (old new : Replay) (word : List ℕ) (m : Move) →
+goes_on : (game : ℕ) (pgn : List ℕ) (old new : Replay) (word : List ℕ) (m : Move) →
     words_left old ≡ word ∷ words_left new →
     new.words ≡ old.words → new.at ≡ old.at + 1 → old.at < length old.words.items → Plays old.board word m →
     ((other : Move) → Plays old.board word other → other ≡ m) → new.board ≡ next old.board m →
@@ -78,13 +78,24 @@ played_behind p after word left m n (first ∷ rest) one board played =
       subst (λ (q : Position). ArePlayed q (take n left) rest) (ap (next p) same ∙ sym board) played.1,
     )
 
-pub forth : (old new : Replay) (word : List ℕ) (m : Move) → words_left old ≡ word ∷ words_left new →
+forth : (old new : Replay) (word : List ℕ) (m : Move) → words_left old ≡ word ∷ words_left new →
     ((other : Move) → Plays old.board word other → other ≡ m) → new.board ≡ next old.board m → (n : ℕ) →
     (moves : List Move) → ArePlayed old.board (take (suc n) (words_left old)) moves →
     (rest : List Move) × ArePlayed new.board (take n (words_left new)) rest
 forth old new word m cut one board n moves played =
     played_behind old.board new.board word (words_left new) m n moves one board
     (subst (λ (l : List (List ℕ)). ArePlayed old.board (take (suc n) l) moves) cut played)
+
+pub goes_one : (old new : Replay) (word : List ℕ) (m : Move) → words_left old ≡ word ∷ words_left new →
+    new.words ≡ old.words → new.at ≡ old.at + 1 → old.at < length old.words.items → Plays old.board word m →
+    ((other : Move) → Plays old.board word other → other ≡ m) → new.board ≡ next old.board m →
+    PutsRow new.at old.board m new.board (string_bytes old.text) (string_bytes new.text) → Goes old new
+goes_one old new word m cut same at below plays one board put = record {
+  goes = λ game pgn u. goes_on game pgn old new word m cut same at below plays one board put u;
+  words = same;
+  at = at;
+  forth = forth old new word m cut one board;
+}
 
 -- a word names no move
 stuck_at : (p : Position) (word : List ℕ) (left : List (List ℕ)) → ((m : Move) → ¬ Plays p word m) → (n : ℕ) →
