@@ -1,14 +1,9 @@
 -- What is kept is an answer.
-use Rattle.std.proofs.Common.{List, ℕ, subst, sym}
+use Rattle.std.proofs.Common.{List, ℕ, ap, subst, sym, ◌∙◌}
 use Rattle.std.specs.String.{string_bytes}
 use Rattle.lobby_talk.specs.Keeping.{HasKept}
 use Rattle.lobby_talk.proofs.Keeping.{kept_of_line}
 use Rattle.lobby_talk.proofs.kept.KeptAnswers.copy_of.Goals as goal
-
-copied : (kept : List KeptAnswer) (text pgn answer found : List ℕ) → pgn ≡ text → answer ≡ found → HasKept kept text found →
-    HasKept kept pgn answer
-copied kept text pgn answer found same is has =
-    subst (λ (l : List ℕ). HasKept kept l answer) (sym same) (subst (λ (l : List ℕ). HasKept kept text l) (sym is) has)
 
 pub new-requires : goal.new-requires
 new-requires c =
@@ -17,3 +12,11 @@ new-requires c =
     kept_of_line kept (string_bytes c.in_ok-pgn.pgn) new
     (subst (λ (l : List ℕ). HasKept kept l new) (sym c.in_ok-pgn.ensures.ok)
     (subst (λ (l : List ℕ). HasKept kept c.args.pgn.now l) (sym c.in_ok-answer.ensures.ok) c.in-Some.ensures))
+
+pub returns : goal.returns
+returns c =
+    let kept = c.args.self.now.answers.items in
+    let pgn = c.args.pgn.now in (
+      ap string_bytes c.new.ensures.pgn ∙ c.in_ok-pgn.ensures.ok,
+      subst (λ (l : List ℕ). HasKept kept pgn l) (sym (ap string_bytes c.new.ensures.answer ∙ c.in_ok-answer.ensures.ok)) c.in-Some.ensures,
+    )

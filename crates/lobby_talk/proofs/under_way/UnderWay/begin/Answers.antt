@@ -1,5 +1,5 @@
 -- What begins is under way, of the lines behind the first.
-use Rattle.std.proofs.Common.{List, ℕ, subst, sym}
+use Rattle.std.proofs.Common.{List, ℕ, ap, subst, sym, ◌∙◌}
 use Rattle.std.specs.String.{string_bytes}
 use Rattle.text_pgn.specs.Game.{NoStart}
 use Rattle.text_pgn.specs.Replaying.{IsUnderWay}
@@ -12,7 +12,7 @@ pub lost-requires : goal.lost-requires
 lost-requires c =
     no_game (lines_behind (string_bytes c.in_ok-pgn.pgn))
     (subst (λ (l : List ℕ). NoStart (lines_behind l)) (sym c.in_ok-pgn.ensures.ok)
-    (subst NoStart c.behind.ensures (rw c.in-None.is at c.in_ok-begin.ensures.none)))
+    (subst (λ (l : List ℕ). NoStart l) c.behind.ensures (rw c.in-None.is at c.in_ok-begin.ensures.none)))
 
 pub invariant_of-result : goal.invariant_of-result
 invariant_of-result c =
@@ -25,3 +25,9 @@ invariant_of-result c =
       under_way = ∣ subst (λ (l : List ℕ). IsReplayOf l game replay) (sym c.in_ok-pgn.ensures.ok)
           (record { named = c.requires; under_way = under }) ∣₁;
     }
+
+pub returns-in_ok-lost-in-None : goal.returns-in_ok-lost-in-None
+returns-in_ok-lost-in-None c = (
+  ap string_bytes c.in_ok-lost-in-None.ensures ∙ c.in_ok-pgn.ensures.ok,
+  subst (λ (l : List ℕ). NoStart l) c.behind.ensures (rw c.in-None.is at c.in_ok-begin.ensures.none),
+)
