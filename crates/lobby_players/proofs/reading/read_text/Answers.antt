@@ -21,8 +21,7 @@ loop-i-preserved c =
     let i = c.loop-i.i in
     let below : c.loop-i.i < length c.as_slice-line-items.result.now = omega (arith, c.loop-i-test.true) in
     let d : Bor (List ℕ) = record { ref_ptr = (0, 0); now = [] } in
-    let after = entries_of c.take.new.players.items in
-    (
+    let after = entries_of c.take.new.players.items in (
       subst (λ (ls : List (List ℕ)). AreLinesOf ls after) (sym (items_more items i d below))
           (line_more (take i (map now items)) (get_or items i d).now (entries_of c.loop-i.players.items) after c.loop-i.invariant.0
           (rw c.in_default.is at c.in_ok-fault.ensures.taken)),
