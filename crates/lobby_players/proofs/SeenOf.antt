@@ -20,12 +20,12 @@ any_sum sum [] = refl
 any_sum sum (p ∷ ps) = rw (nat_list_eq_equiv.symm sum p.sum) (rw (any_sum sum ps) refl)
 
 held : (b is : Bool) → is ≡ not b → is ≡ false → b ≡ true
-held true is told no = refl
-held false is told no = absurd (false≢true (sym no ∙ told))
+held true is told e = refl
+held false is told e = absurd (false≢true (sym e ∙ told))
 
 not_held : (b is : Bool) → is ≡ not b → is ≡ true → b ≡ false
-not_held false is told yes = refl
-not_held true is told yes = absurd (false≢true (sym told ∙ yes))
+not_held false is told e = refl
+not_held true is told e = absurd (false≢true (sym told ∙ e))
 
 module _ (names : List (String Global)) (sums : List (List ℕ)) (ps : List Player) (seen : AreSeen names sums ps) where
   name_seen : (name : List ℕ) → list_any (bytes_eq (str_to_ascii_lowercase name)) (texts_of names) ≡ list_any (is_alike name) (entries_of ps)
@@ -38,19 +38,19 @@ module _ (names : List (String Global)) (sums : List (List ℕ)) (ps : List Play
   -- a name that was there is one that a player has, or one like it; of one that is new no player has one like it
   pub name_held : (name : List ℕ) (is : Bool) → is ≡ not (list_any (bytes_eq (str_to_ascii_lowercase name)) (texts_of names)) → is ≡ false →
       list_any (is_alike name) (entries_of ps) ≡ true
-  name_held name is told no =
-      sym (name_seen name) ∙ held (list_any (bytes_eq (str_to_ascii_lowercase name)) (texts_of names)) is told no
+  name_held name is told e =
+      sym (name_seen name) ∙ held (list_any (bytes_eq (str_to_ascii_lowercase name)) (texts_of names)) is told e
 
   pub name_new : (name : List ℕ) (is : Bool) → is ≡ not (list_any (bytes_eq (str_to_ascii_lowercase name)) (texts_of names)) → is ≡ true →
       list_any (is_alike name) (entries_of ps) ≡ false
-  name_new name is told yes =
-      sym (name_seen name) ∙ not_held (list_any (bytes_eq (str_to_ascii_lowercase name)) (texts_of names)) is told yes
+  name_new name is told e =
+      sym (name_seen name) ∙ not_held (list_any (bytes_eq (str_to_ascii_lowercase name)) (texts_of names)) is told e
 
   -- and so of sums
   pub sum_held : (more : List (List ℕ)) (sum : List ℕ) (is : Bool) → more ≡ sums → is ≡ not (list_any (bytes_eq sum) more) → is ≡ false →
       list_any (has_sum sum) (entries_of ps) ≡ true
-  sum_held more sum is same told no = sym (sum_seen more sum same) ∙ held (list_any (bytes_eq sum) more) is told no
+  sum_held more sum is same told e = sym (sum_seen more sum same) ∙ held (list_any (bytes_eq sum) more) is told e
 
   pub sum_new : (more : List (List ℕ)) (sum : List ℕ) (is : Bool) → more ≡ sums → is ≡ not (list_any (bytes_eq sum) more) → is ≡ true →
       list_any (has_sum sum) (entries_of ps) ≡ false
-  sum_new more sum is same told yes = sym (sum_seen more sum same) ∙ not_held (list_any (bytes_eq sum) more) is told yes
+  sum_new more sum is same told e = sym (sum_seen more sum same) ∙ not_held (list_any (bytes_eq sum) more) is told e
