@@ -140,16 +140,20 @@ class League(Tournament):
         return sum(points for player, points in told if self.teams[player] == team)
 
     def matches_of(self, at, boards):
-        """The matches of a round, each named after the team that has White at its first board; and the byes of teams
-        that have none, each of the first player with one."""
-        results, byes = {}, {}
+        """The matches of a round, each named after the team that has White at its first board, or, as colours
+        alternate, would have it where players alone have the boards before; and the byes of teams that have none, each
+        of the first player with one."""
+        results, byes, alone = {}, {}, []
         for white, black, result in boards:
             one = self.teams[white]
             if black is None:
                 byes.setdefault(one, result)
+                alone.append(one)
                 continue
             pair = (one, self.teams[black])
-            results.setdefault(pair[::-1] if pair[::-1] in results else pair, []).append(result)
+            if not {pair, pair[::-1]} & set(results):
+                results[pair[::-1] if sum(team in pair for team in alone) % 2 else pair] = []
+            results[pair if pair in results else pair[::-1]].append(result)
         met = {team for pair in results for team in pair}
         return ([(*pair, self.result_of(*(self.points_in[at][team] for team in pair), told))
                  for pair, told in results.items()]
