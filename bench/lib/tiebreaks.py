@@ -15,10 +15,11 @@ FORFEITS = ("+/-", "-/+", "-/-", "=/=")
 
 
 class Tournament:
-    """Rounds of boards `(white, black, result)`, players by numbers from 0 on; of a bye `(player, None, sign)`."""
+    """Rounds of boards `(white, black, result)`, players by numbers from 0 on; of a bye `(player, None, sign)`. Where
+    each meets each forfeits are games (15), and section 16 does not hold: who is free has no part in a round."""
 
-    def __init__(self, count, rounds):
-        self.players = range(count)
+    def __init__(self, count, rounds, each=False):
+        self.players, self.each = range(count), each
         self.rounds = [self.of_round(boards) for boards in rounds]
 
     def of_round(self, boards):
@@ -32,7 +33,7 @@ class Tournament:
                 continue
             first, second, one, other = RESULTS[result]
             for player, opponent, points, sign in ((white, black, first, one), (black, white, second, other)):
-                played = result not in FORFEITS
+                played = self.each or result not in FORFEITS
                 told[player] = (opponent if played else None, Fraction(points), played and result != "*",
                                 not played and sign == "-", False)
         return told
@@ -42,6 +43,8 @@ class Tournament:
 
     def for_opponents(self, player):
         """16.3: the last byes that were asked for count as draws, where the player was there for no round behind."""
+        if self.each:
+            return self.points(player)
         total, gone = Fraction(0), True
         for told in reversed(self.rounds):
             _, points, _, voluntary, asked = told[player]
@@ -50,23 +53,26 @@ class Tournament:
         return total
 
     def parts(self, player):
-        """16.4: what each round adds, with whether it was left unplayed by will; a dummy where it was not played."""
-        return [(self.points(player) if told[player][0] is None else self.for_opponents(told[player][0]),
-                 told[player][3]) for told in self.rounds]
+        """16.4: what each round adds, with the player's points and whether it was left unplayed by will; a dummy where
+        it was not played."""
+        return [(self.points(player) if opponent is None else self.for_opponents(opponent), points, will)
+                for told in self.rounds for opponent, points, _, will, _ in [told[player]]
+                if opponent is not None or not self.each]
 
     def buchholz(self, player):
-        return sum(part for part, _ in self.parts(player))
+        return sum(part for part, _, _ in self.parts(player))
 
     def cut(self, player):
         """16.5: the least of the rounds that were left unplayed by will is cut first."""
         parts = self.parts(player)
-        return self.buchholz(player) - min([part for part, will in parts if will] or [part for part, _ in parts])
+        return self.buchholz(player) - min([part for part, _, will in parts if will] or [part for part, _, _ in parts],
+                                           default=0)
 
     def berger(self, player):
-        return sum(part * told[player][1] for (part, _), told in zip(self.parts(player), self.rounds))
+        return sum(part * points for part, points, _ in self.parts(player))
 
     def wins(self, player):
-        return sum(told[player][1] == 1 for told in self.rounds)
+        return sum(points == 1 for _, points, _ in self.parts(player))
 
     def board_points(self, _player):
         return 0
@@ -120,12 +126,12 @@ class Tournament:
 class League(Tournament):
     """A tournament of teams: its games are the matches, of which a win is worth two points."""
 
-    def __init__(self, teams, rounds, numbers):
+    def __init__(self, teams, rounds, numbers, each=False):
         self.teams, count = teams, 1 + max(teams)
         self.points_in = [[self.points_of(boards, team) for team in range(count)] for boards in rounds]
         self.matches = [self.matches_of(at, [board for _, board in sorted(zip(numbers[at], boards))])
                         for at, boards in enumerate(rounds)]
-        super().__init__(count, self.matches)
+        super().__init__(count, self.matches, each)
 
     def points_of(self, boards, team):
         """What a team's players have in a round."""
@@ -134,16 +140,20 @@ class League(Tournament):
         return sum(points for player, points in told if self.teams[player] == team)
 
     def matches_of(self, at, boards):
-        """The matches of a round, each named after the team that has White at its first board; and the byes of teams
-        that have none, each of the first player with one."""
-        results, byes = {}, {}
+        """The matches of a round, each named after the team that has White at its first board, or, as colours
+        alternate, would have it where players alone have the boards before; and the byes of teams that have none, each
+        of the first player with one."""
+        results, byes, alone = {}, {}, []
         for white, black, result in boards:
             one = self.teams[white]
             if black is None:
                 byes.setdefault(one, result)
+                alone.append(one)
                 continue
             pair = (one, self.teams[black])
-            results.setdefault(pair[::-1] if pair[::-1] in results else pair, []).append(result)
+            if not {pair, pair[::-1]} & set(results):
+                results[pair[::-1] if sum(team in pair for team in alone) % 2 else pair] = []
+            results[pair if pair in results else pair[::-1]].append(result)
         met = {team for pair in results for team in pair}
         return ([(*pair, self.result_of(*(self.points_in[at][team] for team in pair), told))
                  for pair, told in results.items()]

@@ -10,7 +10,7 @@ use night_boards::{Round, Said, Starting};
 use night_outcomes::{Asking, Deciding, Reporting, Source};
 use night_report::Tournament;
 use night_rounds::verdict_of;
-use night_standings::{Criterion, Form, Standing, criterion_of};
+use night_standings::{Criterion, Form, Ranking, Standing, System, criterion_of};
 use std::alloc::{AllocError, Global};
 use std::net::SocketAddr;
 use text_parts::parts;
@@ -108,7 +108,8 @@ tie-break after another, in the order of --by, as FIDE's Handbook has them (C.07
 Results are looked for, and counted, as for trf. With --form crosstable it writes who met whom
 in each round, and with --form json what the lobby serves by its --round, for the page; --log
 has the arbiter's desk tell how far the log goes, and the sum of its last line. With
---teams it does so for teams: a match is the boards of a round at which two of them meet.
+--teams it does so for teams: a match is the boards of a round at which two of them meet. Where
+each meets each give --round-robin: C.07 has other rules there than for a Swiss.
 
 Exit status: 0; 1 with what is wrong on standard error; 2 for words that the program does
 not know.
@@ -341,6 +342,13 @@ const TEAMS: OptionText = OptionText {
     is_required: false,
 };
 
+const ROUND_ROBIN: OptionText = OptionText {
+    name: "round-robin",
+    value: OptionValue::Nothing,
+    help: "Each meets each: forfeits are games to tie-breaks, and a free round has no part in them",
+    is_required: false,
+};
+
 pub const START: WordText = WordText {
     name: "start",
     about: "Opens the games of a round",
@@ -405,6 +413,7 @@ pub const TRF: WordText = WordText {
         ROUND_DATE,
         ALL_ROUNDS,
         BY,
+        ROUND_ROBIN,
         PARTICULARS,
         ARCHIVE_IF_ANY,
         SERVER_IF_ANY,
@@ -420,6 +429,7 @@ pub const STANDINGS: WordText = WordText {
         ROUNDS,
         NAME,
         BY,
+        ROUND_ROBIN,
         FORM,
         LOG,
         INITIALS,
@@ -693,6 +703,15 @@ fn criteria_of(
         .collect(alloc)
 }
 
+// By which rules rounds count for tie-breaks.
+fn system_of(values: &ArgMatches<'_>) -> System {
+    if values.get_flag("round-robin") {
+        System::RoundRobin
+    } else {
+        System::Swiss
+    }
+}
+
 // As what standings are asked for; none where the word is none.
 fn form_of(values: &ArgMatches<'_>) -> Option<Form> {
     match values.get_str("form") {
@@ -725,7 +744,10 @@ fn asked_of<'a>(
     }
     Ok(Some(Standing {
         reporting,
-        criteria,
+        ranking: Ranking {
+            system: system_of(values),
+            criteria,
+        },
         form,
         of_teams,
         names,

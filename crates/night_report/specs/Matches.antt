@@ -113,12 +113,35 @@ abbrev pub bye_of : List ℕ → ℕ → List Meeting → Option Meeting
 bye_of sides team [] = None
 bye_of sides team (m ∷ ms) = bye_at sides team m m.black (bye_of sides team ms)
 
--- A match is named after the team that has White at its first board. A team that has none has a bye where one of its
--- players has one.
+-- a board of a match at which one player is alone: a bye of a player of either team
+abbrev pub is_alone : List ℕ → (one other : ℕ) → Meeting → Opponent → Bool
+is_alone sides one other m (opponents.Bye bye) = side sides m.white == one || side sides m.white == other
+is_alone sides one other m (opponents.Player n) = false
+
+-- Colours alternate from board to board: so where an odd number of such boards stands before the first at which the two
+-- meet, who has Black there would have White at the first of all.
+abbrev pub is_turned : List ℕ → (one other : ℕ) → Bool → List Meeting → Bool
+is_turned sides one other turned [] = turned
+is_turned sides one other turned (m ∷ ms) =
+    if is_between sides one other m then turned
+    else is_turned sides one other (if is_alone sides one other m m.black then not turned else turned) ms
+
+-- A match is named after the team that has White at its first board, or would have it there.
+abbrev pub is_led : List ℕ → ℕ → List Meeting → (white black : ℕ) → Bool
+is_led sides team round white black =
+    if is_turned sides white black false round then black == team else white == team
+
+-- the other one of two teams
+abbrev pub other_side : (team white black : ℕ) → ℕ
+other_side team white black = if white == team then black else white
+
+-- the match in which a team is named first; a team without a match has a bye where one of its players has one
 abbrev pub led_by : List ℕ → ℕ → List Meeting → Option Meeting → List Meeting
 led_by sides team round None = option_to_list (bye_of sides team round)
 led_by sides team round (Some m) =
-    if side sides m.white == team then match_of sides m.board team (black_side sides m.black) round ∷ [] else []
+    if is_led sides team round (side sides m.white) (black_side sides m.black)
+    then match_of sides m.board team (other_side team (side sides m.white) (black_side sides m.black)) round ∷ []
+    else []
 
 -- the matches and byes of a round, and of each round, among so many teams
 abbrev pub matches_in : List ℕ → List Meeting → ℕ → List Meeting

@@ -1,5 +1,5 @@
 //! Matches of teams, by the boards at which their players meet.
-ghost use Rattle.std.specs.Prelude.{◌≡◌, ◌≤◌, ◌<◌, ◌*◌, ◌==◌, true, length, map, IfOk};
+ghost use Rattle.std.specs.Prelude.{◌≡◌, ◌≤◌, ◌<◌, ◌*◌, ◌==◌, true, false, length, map, IfOk};
 ghost use Rattle.std.specs.List.{list_any, list_all};
 ghost use Rattle.std.specs.Option.{option_to_list};
 ghost use Rattle.night_report.specs.Matches as spec;
@@ -187,6 +187,51 @@ fn bye_of(sides: &[u32], team: u32, round: &[Meeting]) -> Option<Meeting>
     None
 }
 
+// Whether a board of a match of two teams has one player alone.
+fn is_alone(sides: &[u32], one: u32, other: u32, meeting: Meeting) -> bool
+    ensures { result ≡ spec.is_alone sides.now one other meeting meeting.black }
+{
+    match meeting.black {
+        Opponent::Player(_) => false,
+        Opponent::Bye(_) => {
+            let side = side(sides, meeting.white);
+            side == one || side == other
+        }
+    }
+}
+
+// Whether who has Black at the first board at which two teams meet would have White at the first of all.
+fn is_turned(sides: &[u32], one: u32, other: u32, round: &[Meeting]) -> bool
+    ensures { result ≡ spec.is_turned sides.now one other false round.now }
+{
+    let mut turned = false;
+    for meeting in round {
+        if is_between(sides, one, other, *meeting) {
+            return turned;
+        }
+        if is_alone(sides, one, other, *meeting) {
+            turned = !turned;
+        }
+    }
+    turned
+}
+
+fn is_led(sides: &[u32], team: u32, round: &[Meeting], white: u32, black: u32) -> bool
+    ensures { result ≡ spec.is_led sides.now team round.now white black }
+{
+    if is_turned(sides, white, black, round) {
+        black == team
+    } else {
+        white == team
+    }
+}
+
+fn other_side(team: u32, white: u32, black: u32) -> u32
+    ensures { result ≡ spec.other_side team white black }
+{
+    if white == team { black } else { white }
+}
+
 // The match in which a team is named first, or its bye.
 fn led_by(sides: &[u32], team: u32, round: &[Meeting]) -> Option<Meeting>
     requires { length round.now ≤ 9999 }
@@ -195,8 +240,10 @@ fn led_by(sides: &[u32], team: u32, round: &[Meeting]) -> Option<Meeting>
     match first_of(sides, team, round) {
         None => bye_of(sides, team, round),
         Some(first) => {
-            if side(sides, first.white) == team {
-                let other = black_side(sides, first.black);
+            let white = side(sides, first.white);
+            let black = black_side(sides, first.black);
+            if is_led(sides, team, round, white, black) {
+                let other = other_side(team, white, black);
                 Some(match_of(sides, first.board, team, other, round))
             } else {
                 None
@@ -206,7 +253,7 @@ fn led_by(sides: &[u32], team: u32, round: &[Meeting]) -> Option<Meeting>
 }
 
 /// The matches of a round among so many teams, by the numbers of those that are named first, which have White at the
-/// first board: whoever has more board points has won. A team without a match has the bye of its first player with one.
+/// first board, or would have it there: whoever has more board points has won. A team without a match has the bye of its first player with one.
 pub fn matches_in(
     alloc: Global,
     sides: &[u32],

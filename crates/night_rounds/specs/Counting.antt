@@ -84,6 +84,17 @@ play_of verdicts.BlackUnrated = plays.Short
 play_of verdicts.DrawUnrated = plays.Short
 play_of verdicts.AsPlayed = plays.Board
 
+-- As one that was played counts only a game in which both sides made a move, or none that is known: a report rates it.
+abbrev pub as_played : (told : Play) → Play
+as_played plays.Board = plays.Board
+as_played plays.Short = plays.Short
+as_played plays.Forfeit = plays.Short
+
+abbrev pub play_by : (decided told : Play) → Play
+play_by plays.Board told = as_played told
+play_by plays.Short told = plays.Short
+play_by plays.Forfeit told = plays.Forfeit
+
 abbrev pub scored_by : Option Decision → Scored → Scored
 scored_by None told = told
-scored_by (Some d) told = record { score = score_of d.verdict; play = play_of d.verdict }
+scored_by (Some d) told = record { score = score_of d.verdict; play = play_by (play_of d.verdict) told.play }

@@ -112,6 +112,26 @@ fn play_of(verdict: Verdict) -> Play
     }
 }
 
+// How a board came to its result that was decided as one that was played, by what came of its game: not both sides may
+// have made a move.
+fn as_played(told: Play) -> Play
+    ensures { result ≡ spec.as_played told }
+{
+    match told {
+        Play::Board => Play::Board,
+        Play::Short | Play::Forfeit => Play::Short,
+    }
+}
+
+fn play_by(decided: Play, told: Play) -> Play
+    ensures { result ≡ spec.play_by decided told }
+{
+    match decided {
+        Play::Board => as_played(told),
+        Play::Short | Play::Forfeit => decided,
+    }
+}
+
 /// What a report has of a board: by the decision that counts for it, and else what came of its game.
 pub fn counted(decisions: &[Decision], board: u32, told: Scored) -> Scored
     ensures { result ≡ spec.scored_by (spec.decision_about board decisions.now) told }
@@ -120,7 +140,7 @@ pub fn counted(decisions: &[Decision], board: u32, told: Scored) -> Scored
         None => told,
         Some(decision) => Scored {
             score: score_of(decision.verdict),
-            play: play_of(decision.verdict),
+            play: play_by(play_of(decision.verdict), told.play),
         },
     }
 }

@@ -1,13 +1,36 @@
 -- Points and tie-breaks of players, as FIDE's Handbook has them: C.07, Tie-Break Regulations, in force from 1 August
--- 2024. A player's tournament is a list of rounds, and what they are worth is counted in half points.
+-- 2024. A player's tournament is a list of rounds, and what they are worth is counted in half points. It is a Swiss, or
+-- one in which each meets each (a round robin).
 use Rattle.std.specs.Prelude.{ℕ, zero, suc, ◌+◌, ◌-◌, ◌*◌, ◌==◌, ◌&&◌, ◌||◌, not, Bool, nat_lt, List, [], ◌∷◌, ◌++◌}
 use Rattle.std.specs.Prelude.{map, filter, sum_by, count_by, get_or, Option, None, Some, unwrap_or, if◌then◌else◌}
+use Rattle.std.specs.Prelude.{true, false}
 use Rattle.std.specs.List.{list_all, list_any}
 use Rattle.night_report.specs.declared.cells.Cell.{Cell}
 use Rattle.night_report.specs.declared.cells.Meeting.{Meeting}
 use Rattle.night_standings.specs.declared.breaks.Criterion.{Criterion}
 use Rattle.night_standings.specs.declared.breaks.Criterion.TheVariants as criteria
+use Rattle.night_standings.specs.declared.breaks.System.{System}
+use Rattle.night_standings.specs.declared.breaks.System.TheVariants as systems
+use Rattle.night_report.specs.declared.cells.Play.{Play}
+use Rattle.night_report.specs.declared.cells.Play.TheVariants as plays
 use Rattle.night_report.specs.Cells.{cell_in}
+
+abbrev pub is_swiss : System → Bool
+is_swiss systems.Swiss = true
+is_swiss systems.RoundRobin = false
+
+-- What counts as a game over the board: in a round robin a forfeit does (article 15).
+abbrev pub play_in : System → Play → Play
+play_in s plays.Board = plays.Board
+play_in s plays.Short = plays.Short
+play_in s plays.Forfeit = if is_swiss s then plays.Forfeit else plays.Board
+
+abbrev pub meeting_in : System → Meeting → Meeting
+meeting_in s m = record m { play = play_in s m.play }
+
+-- the rounds as tie-breaks see them
+abbrev pub rounds_in : System → List (List Meeting) → List (List Meeting)
+rounds_in s rounds = map (λ round. map (meeting_in s) round) rounds
 
 -- the rounds of the player of this number
 abbrev pub rounds_of : ℕ → List (List Meeting) → List Cell
@@ -30,20 +53,20 @@ is_voluntary c = is_asked_for c || c.sign == 45
 abbrev pub points : List Cell → ℕ
 points cells = sum_by (λ c. c.halves) cells
 
--- what a round counts for the player's opponents: what it was worth; but a bye that was asked for counts as a draw
--- where the player was there for no round behind it
-abbrev pub counted : Cell → List Cell → ℕ
-counted c later = if is_asked_for c && list_all is_voluntary later then 1 else c.halves
+-- what a round counts for the player's opponents: what it was worth; but in a Swiss a bye that was asked for counts as
+-- a draw where the player was there for no round behind it (16.3)
+abbrev pub counted : System → Cell → List Cell → ℕ
+counted s c later = if is_swiss s && is_asked_for c && list_all is_voluntary later then 1 else c.halves
 
 -- a player's points as they count for the opponents
-abbrev pub adjusted : List Cell → ℕ
-adjusted [] = 0
-adjusted (c ∷ later) = counted c later + adjusted later
+abbrev pub adjusted : System → List Cell → ℕ
+adjusted s [] = 0
+adjusted s (c ∷ later) = counted s c later + adjusted s later
 
 -- these of so many players, in the order of their numbers
-abbrev pub all_adjusted : List (List Meeting) → ℕ → List ℕ
-all_adjusted rounds zero = []
-all_adjusted rounds (suc count) = all_adjusted rounds count ++ (adjusted (rounds_of (suc count) rounds) ∷ [])
+abbrev pub all_adjusted : System → List (List Meeting) → ℕ → List ℕ
+all_adjusted s rounds zero = []
+all_adjusted s rounds (suc count) = all_adjusted s rounds count ++ (adjusted s (rounds_of (suc count) rounds) ∷ [])
 
 -- those of the player of this number
 abbrev pub of_number : List ℕ → ℕ → ℕ
@@ -102,11 +125,19 @@ value_of criteria.Buchholz scores cells = buchholz scores cells
 value_of criteria.SonnebornBerger scores cells = sonneborn_berger scores cells
 value_of criteria.Wins scores cells = wins cells
 
+-- The rounds of a player that have a part in that: in a round robin those with an opponent, so that no round there is
+-- unplayed, and none is left out by will (16.4, 16.5).
+abbrev pub has_part : System → Cell → Bool
+has_part s c = is_swiss s || not (c.opponent == 0)
+
+abbrev pub with_part : System → List Cell → List Cell
+with_part s cells = filter (has_part s) cells
+
 -- what each of so many players has
-abbrev pub all_values : Criterion → List ℕ → List (List Meeting) → ℕ → List ℕ
-all_values k scores rounds zero = []
-all_values k scores rounds (suc count) =
-    all_values k scores rounds count ++ (value_of k scores (rounds_of (suc count) rounds) ∷ [])
+abbrev pub all_values : System → Criterion → List ℕ → List (List Meeting) → ℕ → List ℕ
+all_values s k scores rounds zero = []
+all_values s k scores rounds (suc count) =
+    all_values s k scores rounds count ++ (value_of k scores (with_part s (rounds_of (suc count) rounds)) ∷ [])
 
 abbrev pub all_points : List (List Meeting) → ℕ → List ℕ
 all_points rounds zero = []

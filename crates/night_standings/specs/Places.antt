@@ -9,7 +9,8 @@ use Rattle.night_standings.specs.declared.breaks.Criterion.{Criterion}
 use Rattle.night_standings.specs.declared.breaks.Criterion.TheVariants as criteria
 use Rattle.night_standings.specs.declared.places.Rank.{Rank}
 use Rattle.night_standings.specs.declared.direct.Tied.{Tied}
-use Rattle.night_standings.specs.Breaks.{rounds_of, is_played, all_values, all_points, all_adjusted}
+use Rattle.night_standings.specs.declared.breaks.System.{System}
+use Rattle.night_standings.specs.Breaks.{rounds_in, rounds_of, is_played, all_values, all_points, all_adjusted}
 
 -- A place is how many players are before. Who is before: who was so by what was looked at before; and of those who are
 -- tied by that, who has more.
@@ -145,37 +146,42 @@ is_of_boards criteria.SonnebornBerger = false
 is_of_boards criteria.Wins = false
 
 -- what players have by a tie-break, and their places by it; of teams the points of their boards are given
-abbrev pub values_by : Criterion → List (List Meeting) → List ℕ → List ℕ → ℕ → List ℕ → List ℕ
-values_by k rounds scores boards count places =
+abbrev pub values_by : System → Criterion → List (List Meeting) → List ℕ → List ℕ → ℕ → List ℕ → List ℕ
+values_by s k rounds scores boards count places =
     if is_direct k then all_won rounds places count
-    else (if is_of_boards k then boards else all_values k scores rounds count)
+    else (if is_of_boards k then boards else all_values s k scores rounds count)
 
 abbrev pub places_by : Criterion → List (List Meeting) → (values : List ℕ) → ℕ → List ℕ → List ℕ
 places_by k rounds values count places =
     if is_direct k then settled rounds count count places else places_in (ranks_of places values count)
 
 -- both of these
-abbrev pub places_next : Criterion → List (List Meeting) → List ℕ → List ℕ → ℕ → List ℕ → List ℕ
-places_next k rounds scores boards count places =
-    places_by k rounds (values_by k rounds scores boards count places) count places
+abbrev pub places_next : System → Criterion → List (List Meeting) → List ℕ → List ℕ → ℕ → List ℕ → List ℕ
+places_next s k rounds scores boards count places =
+    places_by k rounds (values_by s k rounds scores boards count places) count places
 
 -- the places by one tie-break after another, and what players have by each
-abbrev pub places_behind : List Criterion → List (List Meeting) → List ℕ → List ℕ → ℕ → List ℕ → List ℕ
-places_behind [] rounds scores boards count places = places
-places_behind (k ∷ ks) rounds scores boards count places =
-    places_behind ks rounds scores boards count (places_next k rounds scores boards count places)
+abbrev pub places_behind : System → List Criterion → List (List Meeting) → List ℕ → List ℕ → ℕ → List ℕ → List ℕ
+places_behind s [] rounds scores boards count places = places
+places_behind s (k ∷ ks) rounds scores boards count places =
+    places_behind s ks rounds scores boards count (places_next s k rounds scores boards count places)
 
-abbrev pub columns_behind : List Criterion → List (List Meeting) → List ℕ → List ℕ → ℕ → List ℕ → List (List ℕ)
-columns_behind [] rounds scores boards count places = []
-columns_behind (k ∷ ks) rounds scores boards count places =
-    values_by k rounds scores boards count places
-    ∷ columns_behind ks rounds scores boards count (places_next k rounds scores boards count places)
+abbrev pub columns_behind :
+    System → List Criterion → List (List Meeting) → List ℕ → List ℕ → ℕ → List ℕ → List (List ℕ)
+columns_behind s [] rounds scores boards count places = []
+columns_behind s (k ∷ ks) rounds scores boards count places =
+    values_by s k rounds scores boards count places
+    ∷ columns_behind s ks rounds scores boards count (places_next s k rounds scores boards count places)
 
 -- the places by points alone: before these none is before another
 abbrev pub places_by_points : List (List Meeting) → ℕ → List ℕ
 places_by_points rounds count = places_in (ranks_of [] (all_points rounds count) count)
 
--- the places of so many players, or teams, by points and by these tie-breaks
-abbrev pub places_of : List Criterion → List (List Meeting) → List ℕ → ℕ → List ℕ
-places_of ks rounds boards count =
-    places_behind ks rounds (all_adjusted rounds count) boards count (places_by_points rounds count)
+-- the places of so many players, or teams, by points and by these tie-breaks; and what they have by each
+abbrev pub places_of : System → List Criterion → List (List Meeting) → List ℕ → ℕ → List ℕ
+places_of s ks rounds boards count =
+    places_behind s ks (rounds_in s rounds) (all_adjusted s rounds count) boards count (places_by_points rounds count)
+
+abbrev pub columns_of : System → List Criterion → List (List Meeting) → List ℕ → ℕ → List (List ℕ)
+columns_of s ks rounds boards count =
+    columns_behind s ks (rounds_in s rounds) (all_adjusted s rounds count) boards count (places_by_points rounds count)

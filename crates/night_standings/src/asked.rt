@@ -1,5 +1,5 @@
 //! What is asked of standings.
-use crate::breaks::Criterion;
+use crate::places::Ranking;
 use lobby_words::NameForm;
 use night_outcomes::Reporting;
 
@@ -20,8 +20,7 @@ pub enum Form {
 #[derive(Drop)]
 pub struct Standing<'a> {
     pub reporting: Reporting<'a>,
-    /// The tie-breaks, in their order.
-    pub criteria: Vec<Criterion>,
+    pub ranking: Ranking,
     pub form: Form,
     /// Whether they are those of the teams, by their matches.
     pub of_teams: bool,

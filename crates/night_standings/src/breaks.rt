@@ -3,8 +3,17 @@ ghost use Rattle.std.specs.Prelude.{◌≡◌, ◌≤◌, ◌<◌, ◌*◌, ◌^
 ghost use Rattle.std.specs.List.{list_all, list_any};
 ghost use Rattle.night_standings.specs.Breaks as spec;
 
+use night_report::Play;
 use night_report::cells::{Cell, Meeting, cell_of};
 use std::alloc::{AllocError, Global};
+
+/// By which rules rounds count for tie-breaks.
+#[derive(Clone, Copy)]
+pub enum System {
+    Swiss,
+    /// Each meets each: forfeits are games, and who is free in a round has no part in it.
+    RoundRobin,
+}
 
 /// What is looked at among players, or teams, who have as many points.
 #[derive(Clone, Copy)]
@@ -18,6 +27,74 @@ pub enum Criterion {
     Buchholz,
     SonnebornBerger,
     Wins,
+}
+
+/// A tie-break, and the rules by which rounds count for it.
+#[derive(Clone, Copy)]
+pub struct Break {
+    pub system: System,
+    pub criterion: Criterion,
+}
+
+fn is_swiss(system: System) -> bool
+    ensures { result ≡ spec.is_swiss system }
+{
+    match system {
+        System::Swiss => true,
+        System::RoundRobin => false,
+    }
+}
+
+// How a game came, as it counts.
+fn play_in(system: System, play: Play) -> Play
+    ensures { result ≡ spec.play_in system play }
+{
+    match play {
+        Play::Board | Play::Short => play,
+        Play::Forfeit => {
+            if is_swiss(system) {
+                Play::Forfeit
+            } else {
+                Play::Board
+            }
+        }
+    }
+}
+
+fn meeting_in(system: System, meeting: Meeting) -> Meeting
+    ensures { result ≡ spec.meeting_in system meeting }
+{
+    Meeting {
+        play: play_in(system, meeting.play),
+        ..meeting
+    }
+}
+
+fn round_in(alloc: Global, system: System, round: &[Meeting]) -> Result<Vec<Meeting>, AllocError>
+    ensures { IfOk result (λ seen. seen.items ≡ map (spec.meeting_in system) round.now) }
+{
+    let mut seen = Vec::new(alloc);
+    for meeting in round {
+        seen.push(meeting_in(system, *meeting))?;
+    }
+    Ok(seen)
+}
+
+/// The rounds as tie-breaks see them.
+pub fn rounds_in(
+    alloc: Global,
+    system: System,
+    rounds: &[Vec<Meeting>],
+) -> Result<Vec<Vec<Meeting>>, AllocError>
+    ensures rounds { IfOk result (λ seen. map (λ round. round.items) seen.items
+        ≡ spec.rounds_in system (map (λ round. round.items) rounds.now)) }
+    ensures all { IfOk result (λ seen. length seen.items ≡ length rounds.now) }
+{
+    let mut seen = Vec::new(alloc);
+    for at in 0..rounds.len() {
+        seen.push(round_in(alloc, system, rounds[at].as_slice())?)?;
+    }
+    Ok(seen)
 }
 
 /// Whether a round was played: there is an opponent, and both came.
@@ -82,11 +159,11 @@ pub fn points(cells: &[Cell]) -> u32
 }
 
 // What a round counts for the player's opponents, by those behind it.
-fn counted(cell: Cell, later: &[Cell]) -> u32
-    ensures counted { result ≡ spec.counted cell later.now }
+fn counted(system: System, cell: Cell, later: &[Cell]) -> u32
+    ensures counted { result ≡ spec.counted system cell later.now }
     ensures few { result ≤ 255 }
 {
-    if is_asked_for(cell) && are_voluntary(later) {
+    if is_swiss(system) && is_asked_for(cell) && are_voluntary(later) {
         1
     } else {
         u32::from(cell.halves)
@@ -94,13 +171,13 @@ fn counted(cell: Cell, later: &[Cell]) -> u32
 }
 
 // A player's half points as they count for the opponents.
-fn adjusted(cells: &[Cell]) -> u32
+fn adjusted(system: System, cells: &[Cell]) -> u32
     requires { length cells.now ≤ 99 }
-    ensures { result ≡ spec.adjusted cells.now }
+    ensures { result ≡ spec.adjusted system cells.now }
 {
     let mut adjusted: u32 = 0;
     for at in 0..cells.len() {
-        adjusted += counted(cells[at], &cells[at + 1..]);
+        adjusted += counted(system, cells[at], &cells[at + 1..]);
     }
     adjusted
 }
@@ -108,16 +185,17 @@ fn adjusted(cells: &[Cell]) -> u32
 /// The half points of so many players, as they count for the opponents.
 pub fn all_adjusted(
     alloc: Global,
+    system: System,
     rounds: &[Vec<Meeting>],
     count: u32,
 ) -> Result<Vec<u32>, AllocError>
     requires { length rounds.now ≤ 99 }
-    ensures { IfOk result (λ all. all.items ≡ spec.all_adjusted (map (λ round. round.items) rounds.now) count) }
+    ensures { IfOk result (λ all. all.items ≡ spec.all_adjusted system (map (λ round. round.items) rounds.now) count) }
 {
     let mut all = Vec::new(alloc);
     for at in 0..count {
         let cells = rounds_of(alloc, at + 1, rounds)?;
-        all.push(adjusted(cells.as_slice()))?;
+        all.push(adjusted(system, cells.as_slice()))?;
     }
     Ok(all)
 }
@@ -248,22 +326,43 @@ fn value_of(criterion: Criterion, scores: &[u32], cells: &[Cell]) -> u64
     }
 }
 
+fn has_part(system: System, cell: Cell) -> bool
+    ensures { result ≡ spec.has_part system cell }
+{
+    is_swiss(system) || cell.opponent != 0
+}
+
+// The rounds of a player that have a part in tie-breaks.
+fn with_part(alloc: Global, system: System, cells: &[Cell]) -> Result<Vec<Cell>, AllocError>
+    ensures cells { IfOk result (λ kept. kept.items ≡ spec.with_part system cells.now) }
+    ensures few { IfOk result (λ kept. length kept.items ≤ length cells.now) }
+{
+    let mut kept = Vec::new(alloc);
+    for cell in cells {
+        if has_part(system, *cell) {
+            kept.push(*cell)?;
+        }
+    }
+    Ok(kept)
+}
+
 /// What each of so many players has by a tie-break: half points, of Sonneborn-Berger quarters, or wins.
 pub fn all_values(
     alloc: Global,
-    criterion: Criterion,
+    by: Break,
     scores: &[u32],
     rounds: &[Vec<Meeting>],
     count: u32,
 ) -> Result<Vec<u64>, AllocError>
     requires { length rounds.now ≤ 99 }
     ensures { IfOk result (λ all. all.items
-        ≡ spec.all_values criterion scores.now (map (λ round. round.items) rounds.now) count) }
+        ≡ spec.all_values by.system by.criterion scores.now (map (λ round. round.items) rounds.now) count) }
 {
     let mut all = Vec::new(alloc);
     for at in 0..count {
         let cells = rounds_of(alloc, at + 1, rounds)?;
-        all.push(value_of(criterion, scores, cells.as_slice()))?;
+        let kept = with_part(alloc, by.system, cells.as_slice())?;
+        all.push(value_of(by.criterion, scores, kept.as_slice()))?;
     }
     Ok(all)
 }

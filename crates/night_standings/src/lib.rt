@@ -16,8 +16,8 @@ mod texts;
 mod word;
 
 pub use asked::{Form, Standing};
-pub use breaks::Criterion;
-pub use places::{Standings, standings_of};
+pub use breaks::{Criterion, System};
+pub use places::{Ranking, Standings, standings_of};
 pub use ranked::ranked_report;
 pub use texts::criterion_of;
 pub use word::write_standings;

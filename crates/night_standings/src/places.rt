@@ -3,7 +3,7 @@ ghost use Rattle.std.specs.Prelude.{◌≡◌, ◌≤◌, length, map, get_or, c
 ghost use Rattle.night_standings.specs.Places as spec;
 ghost use Rattle.night_standings.specs.Breaks as sums;
 
-use crate::breaks::{Criterion, all_adjusted, all_points, all_values};
+use crate::breaks::{Break, Criterion, System, all_adjusted, all_points, all_values, rounds_in};
 use crate::direct::{all_won, settled};
 use night_report::cells::Meeting;
 use std::alloc::{AllocError, Global};
@@ -13,6 +13,14 @@ use std::alloc::{AllocError, Global};
 pub struct Rank {
     pub place: usize,
     pub value: u64,
+}
+
+/// By what players are ranked who have as many points.
+#[derive(Drop)]
+pub struct Ranking {
+    pub system: System,
+    /// The tie-breaks, in their order.
+    pub criteria: Vec<Criterion>,
 }
 
 /// The standings of players, in the order of their numbers.
@@ -108,7 +116,7 @@ fn placed(
 // What players have by a tie-break.
 fn values_by(
     alloc: Global,
-    criterion: Criterion,
+    by: Break,
     rounds: &[Vec<Meeting>],
     scores: &[u32],
     boards: &[u64],
@@ -117,12 +125,12 @@ fn values_by(
 ) -> Result<Vec<u64>, AllocError>
     requires { length rounds.now ≤ 99 }
     ensures { IfOk result (λ values. values.items
-        ≡ spec.values_by criterion (map (λ round. round.items) rounds.now) scores.now boards.now count places.now) }
+        ≡ spec.values_by by.system by.criterion (map (λ round. round.items) rounds.now) scores.now boards.now count places.now) }
 {
-    match criterion {
+    match by.criterion {
         Criterion::Direct => all_won(alloc, rounds, places, count),
         Criterion::BoardPoints => Vec::from_slice(alloc, boards),
-        _ => all_values(alloc, criterion, scores, rounds, count),
+        _ => all_values(alloc, by, scores, rounds, count),
     }
 }
 
@@ -156,6 +164,7 @@ fn places_by_points(alloc: Global, points: &[u64], count: u32) -> Result<Vec<usi
 /// tie-break after another. Of teams, whose meetings are matches, `boards` has the half points of their boards.
 pub fn standings_of(
     alloc: Global,
+    system: System,
     rounds: &[Vec<Meeting>],
     boards: &[u64],
     count: u32,
@@ -165,21 +174,23 @@ pub fn standings_of(
     ensures points { IfOk result (λ told. told.points.items
         ≡ sums.all_points (map (λ round. round.items) rounds.now) count) }
     ensures places { IfOk result (λ told. told.places.items
-        ≡ spec.places_of criteria.now (map (λ round. round.items) rounds.now) boards.now count) }
+        ≡ spec.places_of system criteria.now (map (λ round. round.items) rounds.now) boards.now count) }
     ensures columns { IfOk result (λ told. map (λ column. column.items) told.columns.items
-        ≡ spec.columns_behind criteria.now (map (λ round. round.items) rounds.now)
-        (sums.all_adjusted (map (λ round. round.items) rounds.now) count) boards.now count
-        (spec.places_by_points (map (λ round. round.items) rounds.now) count)) }
+        ≡ spec.columns_of system criteria.now (map (λ round. round.items) rounds.now) boards.now count) }
 {
-    let scores = all_adjusted(alloc, rounds, count)?;
+    let scores = all_adjusted(alloc, system, rounds, count)?;
+    let seen = rounds_in(alloc, system, rounds)?;
     let points = all_points(alloc, rounds, count)?;
     let mut places = places_by_points(alloc, points.as_slice(), count)?;
     let mut columns = Vec::new(alloc);
     for criterion in criteria {
         let values = values_by(
             alloc,
-            *criterion,
-            rounds,
+            Break {
+                system,
+                criterion: *criterion,
+            },
+            seen.as_slice(),
             scores.as_slice(),
             boards,
             count,
@@ -188,7 +199,7 @@ pub fn standings_of(
         places = places_by(
             alloc,
             *criterion,
-            rounds,
+            seen.as_slice(),
             values.as_slice(),
             count,
             places.as_slice(),

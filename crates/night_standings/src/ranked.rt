@@ -4,8 +4,7 @@ ghost use Rattle.night_report.specs.Report.{report_text};
 ghost use Rattle.night_report.specs.Room.{HasRoom, IsFault};
 ghost use Rattle.night_standings.specs.Places.{places_of};
 
-use crate::breaks::Criterion;
-use crate::places::standings_of;
+use crate::places::{Ranking, standings_of};
 use night_report::{Fault, Meeting, Particulars, Team, Tournament, fault_in, report};
 use std::alloc::Global;
 
@@ -18,11 +17,12 @@ pub fn ranked_report(
     players: &[Particulars<'_>],
     teams: &[Team<'_>],
     rounds: &[Vec<Meeting>],
-    criteria: &[Criterion],
+    ranking: &Ranking,
 ) -> Result<Vec<u8>, Fault>
     ensures text { IfOk result (λ text. text.items
         ≡ report_text tournament.now (map (λ day. day.now) days.now) players.now
-        (places_of criteria.now (map (λ round. round.items) rounds.now) [] (length players.now)) teams.now
+        (places_of ranking.now.system ranking.now.criteria.items (map (λ round. round.items) rounds.now) []
+        (length players.now)) teams.now
         (map (λ round. round.items) rounds.now)) }
     ensures room { IfOk result (λ _. HasRoom tournament.now (length days.now) players.now teams.now rounds.now) }
     ensures fault { IfErr result (IsFault tournament.now (length days.now) players.now teams.now rounds.now) }
@@ -30,7 +30,14 @@ pub fn ranked_report(
     if let Some(fault) = fault_in(tournament, days.len(), players, teams, rounds) {
         return Err(fault);
     }
-    let standings = standings_of(alloc, rounds, &[], players.len() as u32, criteria)?;
+    let standings = standings_of(
+        alloc,
+        ranking.system,
+        rounds,
+        &[],
+        players.len() as u32,
+        ranking.criteria.as_slice(),
+    )?;
     report(
         alloc,
         tournament,

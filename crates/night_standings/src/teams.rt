@@ -70,7 +70,7 @@ fn text_of<'a>(
 ) -> Result<Vec<u8>, AllocError> {
     let table = Table {
         names,
-        criteria: asked.criteria.as_slice(),
+        criteria: asked.ranking.criteria.as_slice(),
         standings,
         boards: Some(Boards { sides, rounds }),
     };
@@ -109,10 +109,11 @@ fn text_by(
     let points = all_board_points(alloc, sides, rounds, count)?;
     let standings = standings_of(
         alloc,
+        asked.ranking.system,
         matches.as_slice(),
         points.as_slice(),
         count,
-        asked.criteria.as_slice(),
+        asked.ranking.criteria.as_slice(),
     )?;
     let names: Vec<&str> = teams.iter().map(|team| team.name).collect(alloc)?;
     Ok(text_of(

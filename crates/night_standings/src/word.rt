@@ -74,7 +74,7 @@ fn text_of<'a, R: Files + AllocGlobal + Eprint>(
     let names: Vec<&str> = shown.iter().map(|name| name.as_str()).collect(alloc)?;
     let table = Table {
         names: names.as_slice(),
-        criteria: asked.criteria.as_slice(),
+        criteria: asked.ranking.criteria.as_slice(),
         standings,
         boards: None,
     };
@@ -104,7 +104,9 @@ fn players_text<R: Files + AllocGlobal + Eprint>(
     );
     ensure!(rounds.len() <= 99, "standings are of 99 rounds at most");
     let count = players.len() as u32;
-    let standings = standings_of(rt.alloc(), rounds, &[], count, asked.criteria.as_slice())?;
+    let ranking = &asked.ranking;
+    let criteria = ranking.criteria.as_slice();
+    let standings = standings_of(rt.alloc(), ranking.system, rounds, &[], count, criteria)?;
     text_of(rt, asked, players, met, &standings)
 }
 
@@ -123,7 +125,7 @@ fn report_text(
         players,
         teams.as_slice(),
         rounds,
-        asked.criteria.as_slice(),
+        &asked.ranking,
     )?)
 }
 

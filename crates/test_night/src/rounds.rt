@@ -256,7 +256,13 @@ fn the_last_decision_counts_in_a_report(rt: HostRuntime) {
         play: Play::Short,
     };
     let first = counted(&decisions, 1, told);
-    assert!(rt; matches!((first.score, first.play), (Score::Draw, Play::Board)));
+    assert!(rt; matches!((first.score, first.play), (Score::Draw, Play::Short)));
+    let of_game = Scored {
+        play: Play::Board,
+        ..told
+    };
+    let rated = counted(&decisions, 1, of_game);
+    assert!(rt; matches!((rated.score, rated.play), (Score::Draw, Play::Board)));
     let second = counted(&decisions, 2, told);
     assert!(rt; matches!((second.score, second.play), (Score::White, Play::Forfeit)));
     for board in [4, 5] {
