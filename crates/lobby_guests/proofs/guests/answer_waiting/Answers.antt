@@ -25,12 +25,12 @@ returns-in-None-clause-answers g c =
     (λ goes. (
       c.in_ok-replay_on.field-0,
       subst (λ (n : Option (List ℕ)). Replays kept n old now c.in_ok-replay_on.field-0) next goes,
-      subst (λ (answer : Option KeptAnswer). AreAnswered answer guests guests × IfSome answer (λ one. IsPut one new))
-          (sym c.in-None.is) (refl, tt),
+      subst (λ (answer : Option KeptAnswer). AreAnswered answer guests guests) (sym c.in-None.is) refl,
+      subst (λ (answer : Option KeptAnswer). IfSome answer (λ one. IsPut one new)) (sym c.in-None.is) tt,
     ))
 
-pub returns-in-Some-clause-answers : goal.returns-in-Some-clause-answers
-returns-in-Some-clause-answers g c =
+pub returns-in_ok-keep-in-Some-clause-answers : goal.returns-in_ok-keep-in-Some-clause-answers
+returns-in_ok-keep-in-Some-clause-answers g c =
     let kept = c.args.talk.now.kept.answers.items in
     let old = c.args.talk.now.replay in
     let now = c.replay_on.new.self.replay in
@@ -39,11 +39,12 @@ returns-in-Some-clause-answers g c =
     let told = c.answer_all.new.guests.items in
     let new = c.keep.new.self.kept.answers.items in
     subst (λ (r : Option UnderWay). ∥ ((answer : Option KeptAnswer) × Replays kept (wanted_text guests) old r answer
-    × AreAnswered answer guests told × IfSome answer (λ one. IsPut one new)) ∥₁) (sym c.in_ok-keep.ensures.replay)
+    × AreAnswered answer guests told × IfSome answer (λ one. IsPut one new)) ∥₁) (sym c.in_ok-keep-in-Some.ensures.replay)
     (∥∥₁_map c.in_ok-replay_on.ensures.replays
     (λ goes. (
       c.in_ok-replay_on.field-0,
       subst (λ (n : Option (List ℕ)). Replays kept n old now c.in_ok-replay_on.field-0) next goes,
-      subst (λ (answer : Option KeptAnswer). AreAnswered answer guests told × IfSome answer (λ one. IsPut one new))
-          (sym c.in-Some.is) (c.answer_all.ensures.answered, c.in_ok-keep.ensures.keeps),
+      subst (λ (answer : Option KeptAnswer). AreAnswered answer guests told) (sym c.in-Some.is) c.answer_all.ensures.answered,
+      subst (λ (answer : Option KeptAnswer). IfSome answer (λ one. IsPut one new)) (sym c.in-Some.is)
+          c.in_ok-keep-in-Some.ensures.keeps,
     )))
