@@ -536,8 +536,8 @@ export class ArbiterView {
     if (kind === 'mistake') {
       return { title: t`Was game ${number} of ${name.w} and ${name.b} begun by mistake?`, yes: t`End it`,
         words: t`Before both have moved only a resignation ends a game. It is entered for ${name[side]}, who is to move:
-          in the record ${name[OTHER[side]]} has won without a game. In a league chess-club decide puts down another
-          result. It cannot be taken back.`,
+          in the record ${name[OTHER[side]]} has won without a game. In a league “Decide the result” puts down another.
+          It cannot be taken back.`,
         lines: [`as ${seat[side]} resign ${number}`] };
     }
     const title = t`Take game ${number} of ${[name.w, name.b].filter(Boolean).join(t` and `)} off the table?`;

@@ -87,9 +87,9 @@ export const WORDS = {
   'Was game {0} of {1} and {2} begun by mistake?': 'Wurde Partie {0} von {1} und {2} aus Versehen begonnen?',
   'End it': 'Beenden',
   ['Before both have moved only a resignation ends a game. It is entered for {0}, who is to move: in the record {1} '
-    + 'has won without a game. In a league chess-club decide puts down another result. It cannot be taken back.']:
+    + 'has won without a game. In a league “Decide the result” puts down another. It cannot be taken back.']:
     'Bevor beide gezogen haben, beendet nur eine Aufgabe eine Partie. Sie wird für {0} am Zug eingetragen: in der '
-    + 'Aufzeichnung hat {1} ohne Spiel gewonnen. In einer Liga trägt chess-club decide ein anderes Ergebnis ein. Es '
+    + 'Aufzeichnung hat {1} ohne Spiel gewonnen. In einer Liga trägt „Ergebnis entscheiden“ ein anderes ein. Es '
     + 'lässt sich nicht zurücknehmen.',
   'Both have moved meanwhile. Nothing was entered.': 'Inzwischen haben beide gezogen. Nichts wurde eingetragen.',
   'White resigns': 'Weiß gibt auf',

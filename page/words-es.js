@@ -84,9 +84,9 @@ export const WORDS = {
   'Was game {0} of {1} and {2} begun by mistake?': '¿Se empezó por error la partida {0} de {1} y {2}?',
   'End it': 'Terminarla',
   ['Before both have moved only a resignation ends a game. It is entered for {0}, who is to move: in the record {1} '
-    + 'has won without a game. In a league chess-club decide puts down another result. It cannot be taken back.']:
+    + 'has won without a game. In a league “Decide the result” puts down another. It cannot be taken back.']:
     'Antes de que ambos hayan jugado, solo un abandono termina una partida. Se anota por {0}, a quien le toca: en el '
-    + 'registro {1} ha ganado sin jugar. En una liga, chess-club decide anota otro resultado. No se puede deshacer.',
+    + 'registro {1} ha ganado sin jugar. En una liga, «Decidir el resultado» anota otro. No se puede deshacer.',
   'Both have moved meanwhile. Nothing was entered.': 'Entretanto ambos han jugado. No se anotó nada.',
   'White resigns': 'Abandonan blancas',
   'Black resigns': 'Abandonan negras',

@@ -89,9 +89,9 @@ export const WORDS = {
   'Was game {0} of {1} and {2} begun by mistake?': 'La partie {0} de {1} et {2} a-t-elle commencé par erreur ?',
   'End it': 'La terminer',
   ['Before both have moved only a resignation ends a game. It is entered for {0}, who is to move: in the record {1} '
-    + 'has won without a game. In a league chess-club decide puts down another result. It cannot be taken back.']:
+    + 'has won without a game. In a league “Decide the result” puts down another. It cannot be taken back.']:
     'Avant que les deux aient joué, seul un abandon termine une partie. Il est inscrit pour {0}, au trait : dans les '
-    + 'archives, {1} a gagné sans jouer. Dans un championnat, chess-club decide inscrit un autre résultat. C’est '
+    + 'archives, {1} a gagné sans jouer. Dans un championnat, « Décider le résultat » en inscrit un autre. C’est '
     + 'irrévocable.',
   'Both have moved meanwhile. Nothing was entered.': 'Les deux ont joué entre-temps. Rien n’a été inscrit.',
   'White resigns': 'Abandon des Blancs',

@@ -86,9 +86,9 @@ export const WORDS = {
   'Was game {0} of {1} and {2} begun by mistake?': 'La partita {0} di {1} e {2} è iniziata per errore?',
   'End it': 'Terminala',
   ['Before both have moved only a resignation ends a game. It is entered for {0}, who is to move: in the record {1} '
-    + 'has won without a game. In a league chess-club decide puts down another result. It cannot be taken back.']:
+    + 'has won without a game. In a league “Decide the result” puts down another. It cannot be taken back.']:
     'Prima che entrambi abbiano mosso, solo un abbandono termina una partita. È registrato per {0}, a cui tocca: nel '
-    + 'registro {1} ha vinto senza giocare. In un campionato chess-club decide registra un altro risultato. Non si '
+    + 'registro {1} ha vinto senza giocare. In un campionato «Decidi il risultato» ne registra un altro. Non si '
     + 'può annullare.',
   'Both have moved meanwhile. Nothing was entered.':
     'Nel frattempo entrambi hanno mosso. Non è stato registrato nulla.',

@@ -86,9 +86,9 @@ export const WORDS = {
   'Was game {0} of {1} and {2} begun by mistake?': 'Is partij {0} van {1} en {2} bij vergissing begonnen?',
   'End it': 'Beëindigen',
   ['Before both have moved only a resignation ends a game. It is entered for {0}, who is to move: in the record {1} '
-    + 'has won without a game. In a league chess-club decide puts down another result. It cannot be taken back.']:
+    + 'has won without a game. In a league “Decide the result” puts down another. It cannot be taken back.']:
     'Voordat beiden hebben gezet, eindigt alleen opgave een partij. Die wordt ingevoerd voor {0}, die aan zet is: in '
-    + 'het verslag heeft {1} zonder spel gewonnen. In een competitie voert chess-club decide een andere uitslag in. '
+    + 'het verslag heeft {1} zonder spel gewonnen. In een competitie voert ‘Uitslag bepalen’ een andere in. '
     + 'Het is niet terug te draaien.',
   'Both have moved meanwhile. Nothing was entered.': 'Intussen hebben beiden gezet. Er is niets ingevoerd.',
   'White resigns': 'Wit geeft op',

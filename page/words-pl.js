@@ -85,9 +85,9 @@ export const WORDS = {
   'Was game {0} of {1} and {2} begun by mistake?': 'Czy partię {0} ({1} i {2}) rozpoczęto przez pomyłkę?',
   'End it': 'Zakończ',
   ['Before both have moved only a resignation ends a game. It is entered for {0}, who is to move: in the record {1} '
-    + 'has won without a game. In a league chess-club decide puts down another result. It cannot be taken back.']:
+    + 'has won without a game. In a league “Decide the result” puts down another. It cannot be taken back.']:
     'Zanim obie strony wykonają ruch, partię kończy tylko poddanie. Zapisuje się je za stronę na posunięciu ({0}): w '
-    + 'zapisie wygrywa bez gry {1}. W lidze chess-club decide zapisuje inny wynik. Tego nie można cofnąć.',
+    + 'zapisie wygrywa bez gry {1}. W lidze „Rozstrzygnij wynik” zapisuje inny. Tego nie można cofnąć.',
   'Both have moved meanwhile. Nothing was entered.': 'Tymczasem obie strony wykonały ruch. Niczego nie zapisano.',
   'White resigns': 'Białe się poddają',
   'Black resigns': 'Czarne się poddają',

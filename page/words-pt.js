@@ -85,9 +85,9 @@ export const WORDS = {
   'Was game {0} of {1} and {2} begun by mistake?': 'A partida {0} de {1} e {2} começou por engano?',
   'End it': 'Encerrar',
   ['Before both have moved only a resignation ends a game. It is entered for {0}, who is to move: in the record {1} '
-    + 'has won without a game. In a league chess-club decide puts down another result. It cannot be taken back.']:
+    + 'has won without a game. In a league “Decide the result” puts down another. It cannot be taken back.']:
     'Antes que os dois tenham jogado, só um abandono encerra uma partida. Ele é registrado por {0}, que tem a vez: '
-    + 'no registro, {1} venceu sem jogar. Numa liga, chess-club decide registra outro resultado. Não pode ser '
+    + 'no registro, {1} venceu sem jogar. Numa liga, “Decidir o resultado” registra outro. Não pode ser '
     + 'desfeito.',
   'Both have moved meanwhile. Nothing was entered.': 'Enquanto isso, os dois jogaram. Nada foi registrado.',
   'White resigns': 'Brancas abandonam',
