@@ -307,12 +307,13 @@ export class ArbiterView {
         make('span', { class: 'unseen' }, t`, game ${number}`)),
       act('drop', t`Take off`));
     card.title = make('a', { href: `#/game/${number}`, 'data-key': `game-${number}` }, t`Game ${number}`);
+    card.place = make('span', { class: 'desk-place small' });
     card.state = make('p', { class: 'desk-state' });
     card.last = make('p', { class: 'desk-last small' });
     card.law = make('p', { class: 'desk-law small' });
     card.note = make('p', { class: 'note', role: 'status' });
     card.root = make('article', { class: 'desk-card', 'aria-label': t`Game ${number}` }, card.board.root,
-      make('h2', {}, card.title), player('b'), card.state, card.last, card.law, player('w'),
+      make('h2', {}, card.title, ' ', card.place), player('b'), card.state, card.last, card.law, player('w'),
       make('div', { class: 'desk-acts', role: 'group', 'aria-label': t`Decide game ${number}` },
         act('w', t`White resigns`), act('b', t`Black resigns`), act('draw', t`Draw`), act('mistake', t`By mistake`),
         act('flag', t`Flag`), act('adjourn', t`Adjourn`), act('pgn', t`Save PGN`),
@@ -441,6 +442,7 @@ export class ArbiterView {
     const law = card.standing && this.app.round.lawOf(card.number);
     if (card.standing) setText(card.state, this.stateWords(card));
     setText(card.law, law ? `${lawWords(law)}.` : '');
+    setText(card.place, this.app.round.boardWords(card.number));
     card.acts.decide.classList.toggle('strong', Boolean(law && law.side && law.found === 'cannot'));
   }
 
@@ -455,6 +457,7 @@ export class ArbiterView {
   renderRound() {
     for (const card of this.cards.values()) this.renderResult(card);
     this.renderLog();
+    this.decision.renderBoards();
     this.waits.render();
   }
 
@@ -536,8 +539,8 @@ export class ArbiterView {
     if (kind === 'mistake') {
       return { title: t`Was game ${number} of ${name.w} and ${name.b} begun by mistake?`, yes: t`End it`,
         words: t`Before both have moved only a resignation ends a game. It is entered for ${name[side]}, who is to move:
-          in the record ${name[OTHER[side]]} has won without a game. In a league chess-club decide puts down another
-          result. It cannot be taken back.`,
+          in the record ${name[OTHER[side]]} has won without a game. In a league “Decide the result” puts down another.
+          It cannot be taken back.`,
         lines: [`as ${seat[side]} resign ${number}`] };
     }
     const title = t`Take game ${number} of ${[name.w, name.b].filter(Boolean).join(t` and `)} off the table?`;

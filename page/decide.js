@@ -4,18 +4,19 @@ import { MINUTE, isAbsent } from './absent.js';
 import { findKept, toldOf } from './kept.js';
 import { t } from './language.js';
 import { AS_PLAYED, readRefusal, readShow } from './lines.js';
-import { byId, setText } from './make.js';
+import { byId, make, setText } from './make.js';
 import { mayMate } from './material.js';
 import { plain, toldWords, untold } from './plain.js';
+import { resultText } from './round.js';
 import {
-  AGREED, OTHER, colourWord, kindWords, lawWords, refusalWords, resultWords, whyWords, withReason,
+  AGREED, OTHER, colourWord, decidedWords, kindWords, lawWords, refusalWords, resultWords, whyWords, withReason,
 } from './words.js';
 
 const LONGEST = 255;                   // so many bytes a line has that the lobby takes
 /** By which a game ended that is a draw where the winner cannot mate. */
 const LOST_BY = ['6.9', '5.1.2'];
 /** What is filled in of a decision. */
-const FILLED = ['result', 'article', 'reason'];
+const FILLED = ['result', 'article', 'reason'], NOTHING = { result: '', article: '', reason: '' };
 const NO_NUMBER = -1;                 // in the place of a game's number, of a board without one
 const FORFEIT = { w: '-/+', b: '+/-', wb: '-/-' }; // of who did not come
 
@@ -27,9 +28,14 @@ export class Decision {
     this.about = 0;                    // the number of the game that is asked about
     this.standing = null;              // how it stood then
     this.isKnown = false;              // whether its board was told
+    this.likely = this.filled = NOTHING; // what is likely of it, and what of that or another result was filled in
+    this.boards = '';                  // the boards without a game that are listed
     this.dialog = byId('decide-dialog');
     this.form = byId('decide-form');
-    this.form.addEventListener('input', () => this.render());
+    this.form.addEventListener('input', ({ target }) => {
+      if (target.name === 'result') this.follow(target.value);
+      this.render();
+    });
     this.form.addEventListener('submit', (event) => {
       event.preventDefault();
       this.decide();
@@ -71,7 +77,7 @@ export class Decision {
     await this.app.round.look();
     const found = this.app.round.boardAt(round, board);
     setText(byId('decide-found'), !found ? t`No such board was told of this round.`
-      : found.bye ? t`This board has a bye.` : '');
+      : found.bye ? t`This board has a bye: its sign in the pairings, U, F, H or Z, says what it is worth.` : '');
     if (!found || found.bye) byId('decide-a-result').open = true;
     else if (found.game) await this.lookUp(found.game);
     else this.askBoard(found);
@@ -88,7 +94,7 @@ export class Decision {
     const { number } = standing, fields = this.form.elements;
     const [white, black] = [standing.white, standing.black].map((name) => this.nameOf(name));
     Object.assign(this, { about: number, standing });
-    for (const name of FILLED) fields[name].value = '';
+    this.put(NOTHING);
     this.fill(standing);
     fields.board.value = '';
     fields.round.value = String(this.app.round.newest() || 1);
@@ -109,7 +115,8 @@ export class Decision {
   askBoard({ round, board, white, black }) {
     const fields = this.form.elements;
     Object.assign(this, { about: NO_NUMBER, standing: { number: NO_NUMBER, white, black, ply: AGREED }, isKnown: true });
-    for (const name of FILLED) fields[name].value = '';
+    this.likely = NOTHING;
+    this.put(NOTHING);
     Object.assign(fields.round, { value: String(round) });
     Object.assign(fields.board, { value: String(board) });
     setText(byId('decide-title'),
@@ -135,12 +142,30 @@ export class Decision {
       : t`Board ${place.board} of round ${place.round} is of ${names.white} and ${names.black}, and not of these two.`;
   }
 
-  /** Fills in what is likely, where nothing stands there. */
+  /** Fills in what is likely of a game about which nobody has decided, where the hand has written nothing. */
   fill(standing) {
-    const fields = this.form.elements;
-    if (FILLED.some((name) => fields[name].value)) return;
-    const filled = likely(standing, this.desk.absences.absent(standing), this.app.round.lawOf(standing.number));
-    for (const name of FILLED) fields[name].value = filled[name];
+    const { round } = this.app, isDecided = round.decided(standing.number, standing.result);
+    if (!this.isUntouched(FILLED)) return;
+    this.likely = isDecided ? NOTHING
+      : likely(standing, this.desk.absences.absent(standing), round.lawOf(standing.number));
+    this.put(this.likely);
+  }
+
+  put(filled) {
+    this.filled = filled;
+    for (const name of FILLED) this.form.elements[name].value = filled[name];
+  }
+
+  /** Whether these fields have what was filled in. */
+  isUntouched(names) {
+    return names.every((name) => this.form.elements[name].value === this.filled[name]);
+  }
+
+  /** Another result is chosen: what was filled in for the one before goes with it. */
+  follow(result) {
+    if (!this.isUntouched(['article', 'reason'])) return;
+    const reason = absentWords(result) || (this.about === NO_NUMBER && result !== AS_PLAYED ? t`played elsewhere` : '');
+    this.put(result === this.likely.result ? this.likely : { result, article: '', reason });
   }
 
   /** Which board of which round it is, where that was told and nothing was written meanwhile. */
@@ -155,12 +180,28 @@ export class Decision {
 
   // ---- what is told
 
+  /** The boards without a game and a result, each with the way to decide it. */
+  renderBoards() {
+    const boards = this.app.round.unplayed(), key = JSON.stringify(boards);
+    if (key === this.boards) return;
+    this.boards = key;
+    setText(byId('decide-count'), boards.length ? String(boards.length) : '');
+    byId('decide-unplayed').hidden = !boards.length;
+    byId('decide-boards').replaceChildren(...boards.map((one) => {
+      const place = t`Round ${one.round}, board ${one.board}`;
+      return make('li', {}, make('span', {}, `${place}: ${one.names}`), ' ', make('button', { type: 'button',
+        onclick: () => this.askBoard(one) }, t`Decide the result`, make('span', { class: 'unseen' }, `, ${place}`)));
+    }));
+  }
+
   /** What the server says of a game that stood so at the moment `at`, and what the Laws say of it. */
   tell(standing, at) {
     const { result, article, side } = standing, words = resultWords(result, article);
     const ran = article ? null : this.desk.absences.ran(standing, at);
+    const found = this.app.round.decided(standing.number, result), why = found && found.why ? `: ${found.why}` : '';
+    const decided = found ? `${resultText(found.result)} ${decidedWords(found.result)}${why}. ` : '';
     setText(byId('decide-stands'), article
-      ? t`The server says ${words.score}: ${withReason(words.result, words.reason).trim()}.`
+      ? decided + t`The server says ${words.score}: ${withReason(words.result, words.reason).trim()}.`
       : ran === null ? t`${colourWord(side)} has not made a move.`
       : t`${colourWord(side)} has not made a move; the clocks have run for ${Math.floor(ran / MINUTE)} min.`);
     setText(byId('decide-law'), saidByLaws(standing, this.app.round.lawOf(standing.number)));
@@ -234,18 +275,21 @@ function loserOf({ result }) {
   return { '1-0': 'b', '0-1': 'w' }[result] || '';
 }
 
+/** Who did not come, by a forfeit; '' by another result. */
+function absentWords(result) {
+  const [sides] = Object.entries(FORFEIT).find(([, forfeit]) => forfeit === result) || [''];
+  return !sides ? '' : sides.length > 1 ? t`neither player came in time` : t`${colourWord(sides)} did not come in time`;
+}
+
 /** What is likely to be decided of a game, as the form has it, where these sides have not come and this is what the Laws
  * ask of it. */
 function likely({ ply, article, result, fen }, absent, law) {
   const loser = loserOf({ result }), sides = ply < AGREED ? absent.join('') || loser : '';
-  if (sides) {
-    return { result: FORFEIT[sides], article: '6.7', reason: sides.length > 1 ? t`neither player came in time`
-      : t`${colourWord(sides)} did not come in time` };
-  }
+  if (sides) return { result: FORFEIT[sides], article: '6.7', reason: absentWords(FORFEIT[sides]) };
   if (loser && LOST_BY.includes(article) && (isFound(law) ? law.found === 'cannot' : !mayMate(OTHER[loser], fen))) {
     return { result: '1/2-1/2', article, reason: t`${colourWord(OTHER[loser])} cannot mate by any legal moves` };
   }
-  return { result: '', article: '', reason: '' };
+  return NOTHING;
 }
 
 /** Whether the round's file tells of a game whether its winner can mate. */

@@ -3,17 +3,21 @@
 
 import { t } from './language.js';
 import { readPgn, readRefusal, readRows, readTimes, timesOfOpen } from './lines.js';
-import { byId, copy, make, setText } from './make.js';
+import { byId, copy, make, save, setText } from './make.js';
 import { isOf } from './pairing.js';
 import { folded } from './plain.js';
 import { arbiterWords, timesWords } from './words.js';
 
 const HEADER = 'board,white,black,times,start', FIELDS = 5;
+const EXAMPLE = `${HEADER}\n1,ann,bob,900+10,\n2,Cid Hall,Dee Moss,900+10,\n3,eve,,H,`;
 const LEAST = 60;                    // seconds of each player at first: fewer are taken for minutes that were meant
 const UNTOLD = -1;                   // in the place of a game's number
 const SETTLES = 700;                 // milliseconds between two looks at the table
 const ZONE = /(Z|[+-]\d\d:\d\d)$/;
-const FIELD = /(?:"((?:[^"]|"")*)"|([^,"\r\n]*))(,|\r?\n|$)/y;
+const SEPARATORS = [';', '\t', ','];  // as spreadsheets save and copy
+/** The points of a bye by its sign, as `chess-club start` reads it. */
+const BYES = { '': '1', U: '1', F: '1', H: '½', Z: '0' };
+const MOST_NAMED = 12;               // players without a board
 
 export class Openings {
   /** desk: {app, question}. */
@@ -23,41 +27,49 @@ export class Openings {
     this.boards = [];
     this.isUnsure = false;
     const form = byId('boards-form'), file = form.elements.file;
-    form.elements.csv.placeholder = HEADER;
+    form.elements.csv.placeholder = EXAMPLE;
     form.addEventListener('submit', (event) => {
       event.preventDefault();
       this.take(form.elements.csv.value);
     });
     file.addEventListener('change', async () => {
-      if (file.files[0]) this.take(form.elements.csv.value = await file.files[0].text());
+      if (file.files[0]) this.take(form.elements.csv.value = decoded(await file.files[0].arrayBuffer()));
       file.value = '';
     });
     byId('boards-open').addEventListener('click', () => this.ask());
     byId('boards-copy').addEventListener('click', async () => {
-      const done = await copy(this.taken());
-      this.note(done ? t`It is copied.` : this.taken(), 'news');
+      const done = await copy(this.command());
+      this.note(done ? t`The command is copied.` : this.command(), 'news');
     });
+    byId('boards-save').addEventListener('click', () => save(this.file(), 'text/csv', this.csv()));
   }
 
   // ---- reading
 
-  /** Of pairings by full names the field has the short ones then, as the round's file wants them. */
+  /** Of pairings by full names, or as a spreadsheet has them, the field has those of the round's file then. */
   take(text) {
-    const { boards, rows, wrong } = readPairings(text, this.app.players);
+    const { boards, wrong } = readPairings(text, this.app.players);
     this.boards = wrong ? [] : boards;
     this.note(wrong);
-    if (!wrong && boards.some(({ row }, place) => row !== rows[place].join())) {
-      byId('boards-form').elements.csv.value = [HEADER, ...boards.map(({ row }) => row)].join('\n');
-      this.note(t`The full names stand above as short ones now, as chess-club start takes them.`, 'news');
+    const csv = this.csv().trim();
+    if (!wrong && csv !== text.replaceAll('\r', '').trim()) {
+      byId('boards-form').elements.csv.value = csv;
+      this.note(t`The pairings stand above now as chess-club start takes them.`, 'news');
     }
     this.render();
   }
 
+  /** The pairings as chess-club start takes them. */
+  csv() {
+    return [HEADER, ...this.boards.map(({ row }) => row), ''].join('\n');
+  }
+
   // ---- opening
 
-  /** The boards that have no game yet and whose start has come. */
+  /** The boards that have no game yet, shall have one, and whose start has come. */
   due() {
-    return this.boards.filter(({ game, start, black }) => black && !game && start <= Date.now());
+    return this.boards.filter(({ game, start, black, isElsewhere }) => black && !game && !isElsewhere
+      && start <= Date.now());
   }
 
   ask() {
@@ -139,9 +151,36 @@ export class Openings {
     return found ? found.board : '';
   }
 
-  /** Which games are which board's, as chess-club start takes them. */
-  taken() {
-    return this.boards.filter(({ game }) => game).map(({ board, game }) => `--take ${board}=${game}`).join(' ');
+  /** The round of these pairings: one that was told with them, else the next. */
+  round() {
+    const { round } = this.app, newest = round.newest();
+    const isOf = (number) => this.boards.length > 0 && this.boards.every(({ board, white, black }) => {
+      const told = round.boardAt(number, Number(board));
+      return told && told.white === white && told.black === black;
+    });
+    return isOf(newest) ? newest : newest + 1;
+  }
+
+  file() {
+    return `round${this.round()}.csv`;
+  }
+
+  /** What notes on the club's machine which games are which board's; boards that are played elsewhere are left out. */
+  command() {
+    const elsewhere = this.boards.filter(({ isElsewhere }) => isElsewhere).map(({ board }) => ` -e '^${board},'`).join('');
+    const pairings = `FOLDER/${this.file()}`, files = elsewhere ? `<(grep -v${elsewhere} ${pairings})` : pairings;
+    const taken = this.boards.filter(({ game }) => game).map(({ board, game }) => ` --take ${board}=${game}`).join('');
+    return taken && `./chess-club start --pairings ${files} --round-file FOLDER/round${this.round()}.games`
+      + ` --lobby 127.0.0.1:${location.port || '8080'} --token-file FOLDER/arbiter.link${taken}`;
+  }
+
+  /** Who of the players has no board in these pairings, in words; '' where nobody has none. */
+  missingWords() {
+    const sits = new Set(this.boards.flatMap(({ white, black }) => [white, black]));
+    const missing = [...this.app.players].filter(([name, { role }]) => role !== 'arbiter' && !sits.has(name));
+    const names = missing.slice(0, MOST_NAMED).map(([name]) => this.app.nameWords(name)).join(', ');
+    const more = missing.length > MOST_NAMED ? ` … (${missing.length})` : '';
+    return missing.length && this.boards.length ? t`In no row, and so without a point in this round: ${names + more}` : '';
   }
 
   note(text, kind = 'refused') {
@@ -150,19 +189,46 @@ export class Openings {
   }
 
   render() {
-    const count = this.due().length;
+    const count = this.due().length, missing = this.missingWords();
     byId('boards-list').replaceChildren(...this.boards.map((board) => this.item(board)));
     byId('boards-open').hidden = !count;
     byId('boards-open').disabled = this.isBusy || !this.app.reachable();
-    byId('boards-copy').hidden = !this.taken();
+    byId('boards-copy').hidden = !this.command();
+    byId('boards-save').hidden = !this.boards.length;
+    setText(byId('boards-missing'), missing);
+    setText(byId('boards-file'), this.boards.length ? t`For the standings: save the pairings as ${this.file()} in the
+      evening’s folder on the club’s machine. Once their games are open run the command there, with that folder for
+      FOLDER.` : '');
   }
 
-  item({ board, white, black, line, start, game, said }) {
-    const name = (one) => this.app.nameWords(one), times = timesWords(readTimes(timesOfOpen(`open white ${line}`)));
+  item(one) {
+    const { board, white, black, line, start, game, said, bye } = one, [first, second] = [white, black].map((name) =>
+      this.app.nameWords(name)), times = timesWords(readTimes(timesOfOpen(`open white ${line}`)));
     return make('li', { class: game ? 'done' : said ? 'open' : 'still' }, t`Board ${board}`, ': ',
-      black ? `${name(white)} – ${name(black)}, ${times}` : t`${name(white)} has no opponent`,
+      black ? `${first} – ${second}, ${times}` : t`${first} has no opponent: a bye worth ${BYES[bye]}`,
       start > Date.now() && `, ${t`from ${momentWords(start)} on`}`, said && `. ${said}`,
-      game > 0 && ' ', game > 0 && make('a', { href: `#/game/${game}` }, t`Look at game ${game}`));
+      game > 0 && ' ', game > 0 && make('a', { href: `#/game/${game}` }, t`Look at game ${game}`),
+      black && !game && this.elsewhere(one));
+  }
+
+  /** Whether a board is played on another board, as one of wood: no game is opened for it. */
+  elsewhere(board) {
+    const box = make('input', { type: 'checkbox', checked: Boolean(board.isElsewhere), disabled: Boolean(this.isBusy) });
+    box.addEventListener('change', () => {
+      board.isElsewhere = box.checked;
+      this.render();
+      byId('boards-list').children[this.boards.indexOf(board)].querySelector('input').focus();
+    });
+    return make('label', { class: 'check' }, box, make('span', {}, t`Open no game: it is played elsewhere`));
+  }
+}
+
+/** The text of a file: UTF-8, or else as spreadsheets of Windows save it. */
+function decoded(bytes) {
+  try {
+    return new TextDecoder('utf-8', { fatal: true }).decode(bytes);
+  } catch (refused) {
+    return new TextDecoder('windows-1252').decode(bytes);
   }
 }
 
@@ -170,66 +236,70 @@ function momentWords(at) {
   return new Date(at).toLocaleString([], { dateStyle: 'short', timeStyle: 'short' });
 }
 
-/** The rows of a CSV (RFC 4180), empty lines left out; null where quotes stand within a field. */
+/** The rows of a CSV (RFC 4180), by the separator that its first line has, with fields that are trimmed; empty lines are
+ * left out. null where quotes stand within a field. */
 function readCsv(text) {
-  const rows = [[]];
-  FIELD.lastIndex = 0;
-  for (let at = 0; at < text.length || rows[rows.length - 1].length; at = FIELD.lastIndex) {
-    const found = FIELD.exec(text);
+  const rows = [[]], first = text.split('\n', 1)[0];
+  const separator = SEPARATORS.find((one) => first.includes(one)) || ',';
+  const field = new RegExp(`(?:"((?:[^"]|"")*)"|([^${separator}"\r\n]*))(${separator}|\r?\n|$)`, 'y');
+  for (let at = 0; at < text.length || rows[rows.length - 1].length; at = field.lastIndex) {
+    const found = field.exec(text);
     if (!found) return null;
-    rows[rows.length - 1].push(found[1] === undefined ? found[2] : found[1].replaceAll('""', '"'));
+    rows[rows.length - 1].push((found[1] === undefined ? found[2] : found[1].replaceAll('""', '"')).trim());
     if (found[3] === '') break;
-    if (found[3] !== ',') rows.push([]);
+    if (found[3] !== separator) rows.push([]);
   }
-  return rows.filter((row) => row.length > 1 || row[0]);
+  return rows.filter((row) => row.some(Boolean));
 }
 
 /** The boards of a round: {board, white, black, line, start, row}, `line` having the times as `open` has them, `black`
- * being empty where White has no opponent, `start` in milliseconds, `row` with the short names; or what is wrong with the
- * first row that is. `rows` are those of the text, without the first. */
+ * being empty where White has no opponent, `bye` the sign of that, `start` in milliseconds, `row` with the short names; or
+ * what is wrong with the first row that is. */
 function readPairings(text, players) {
   const [head, ...rows] = readCsv(text.replace(/^\ufeff/, '')) || [], boards = [], seen = new Set();
-  if (!head || head.join() !== HEADER) return { boards, rows, wrong: t`The first line has to be ${HEADER}` };
+  if (!head || head.join().toLowerCase() !== HEADER) return { boards, wrong: t`The first line has to be ${HEADER}` };
   for (const [place, row] of rows.entries()) {
     const seats = (row[2] ? row.slice(1, 3) : row.slice(1, 2)).map((said) => ({ said, meant: meant(said, players) }));
     const names = seats.map((seat) => seat.meant[0]), board = boardOf(row, ...names);
     const wrong = wrongWith(row, board, seats.find((seat) => seat.meant.length !== 1),
       [row[0], ...names].find((one, at, all) => seen.has(one) || all.indexOf(one) < at));
-    if (wrong) return { boards, rows, wrong: t`Row ${place + 2}: ${wrong}.` };
+    if (wrong) return { boards, wrong: t`Row ${place + 2}: ${wrong}.` };
     [row[0], ...names].forEach((one) => seen.add(one));
     boards.push(board);
   }
-  return { boards, rows, wrong: boards.length ? '' : t`There is no board in it.` };
+  return { boards, wrong: boards.length ? '' : t`There is no board in it.` };
 }
 
-/** The names of whom a field may mean: of who has it as name, else of all who have it as full name, as `Ann Lee` or
- * `Lee, Ann`. */
+/** The names of whom a field may mean: of who has it as name, else of all who have it so but for small letters, or as full
+ * name, as `Ann Lee` or `Lee, Ann`. */
 function meant(said, players) {
   const spelled = (name) => folded(name.replace(/^([^,]*),(.*)$/, '$2 $1')).replace(/\s+/g, ' ');
   return players.has(said) ? [said]
-    : [...players].filter(([, { full }]) => spelled(full) === spelled(said)).map(([name]) => name);
+    : [...players].filter(([name, { full }]) => [name, full].some((one) => spelled(one) === spelled(said)))
+      .map(([name]) => name);
 }
 
 function boardOf(row, white, black = '') {
-  const [board, , , times, begins] = row, short = [board, white, black, times, begins].join();
+  const [board, , , said, begins] = row, bye = black || begins ? null : (said || '').toUpperCase();
+  const times = bye === null ? said : bye, short = [board, white, black, times, begins].join();
   const { initial, increment, moves, second } = readTimes(times || '') || { initial: NaN };
   const line = moves ? `${moves}/${initial}:${second} ${increment}` : `${initial} ${increment}`;
-  return { board, white, black, line, start: begins ? Date.parse(begins) : 0, game: 0, said: '', row: short };
+  return { board, white, black, line, start: begins ? Date.parse(begins) : 0, game: 0, said: '', bye, row: short };
 }
 
 /** What is wrong with a row, of which a seat is not one player's, or a field stands twice, where these are given; else
  * ''. */
-function wrongWith(row, { line, start }, unclear, twice) {
-  const [board, , black, times, begins] = row;
+function wrongWith(row, { line, start, bye }, unclear, twice) {
+  const [board, , , times, begins] = row;
   if (row.length !== FIELDS) return t`it has not five fields`;
   if (!/^[1-9]\d{0,5}$/.test(board)) return t`the board is no number`;
   if (unclear && !unclear.meant.length) return t`no player has the name ${unclear.said}`;
   if (unclear) return t`${unclear.said} is the full name of ${unclear.meant.join(', ')}: write which of them it is`;
   if (twice !== undefined) return t`${twice} stands twice`;
   if (Number.isNaN(start) || begins && !ZONE.test(begins)) return t`the start is not as 2026-11-26T19:30Z is`;
-  const isBye = !black && !begins, areTimes = timesOfOpen(`open white ${line}`) === times;
-  if (!isBye && !areTimes) return t`the times are not as 300+2 is`;
+  if (bye !== null) return bye in BYES ? '' : t`the sign of a bye is none of U, F, H and Z`;
+  if (timesOfOpen(`open white ${line}`) !== times) return t`the times are not as 300+2 is`;
   // (the page writes 15+10 for 15 minutes, and this file has seconds)
-  const isShort = !isBye && readTimes(times).initial < LEAST;
+  const isShort = readTimes(times).initial < LEAST;
   return isShort ? t`the times are in seconds, and less than a minute: 15 minutes are 900` : '';
 }

@@ -136,6 +136,13 @@ export class RoundFile {
     return { ...found, round, white: white.name, black: black.name, names };
   }
 
+  /** The boards that have neither a game nor a result so far, as boardAt() has them. */
+  unplayed() {
+    const rounds = this.told && !isOfTeams(this.told) ? this.told.rounds : [];
+    return rounds.flatMap((boards, place) => boards.filter(({ bye, game, result }) => !bye && !game && result === '*')
+      .map(({ board }) => this.boardAt(place + 1, board)));
+  }
+
   /** The board of the newest round that a player has and for which one of the two did not come: {event, round, board,
    * names, score}; null where there is none. */
   defaultOf(name) {

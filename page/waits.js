@@ -127,6 +127,8 @@ export class Waits {
     found.forEach((one, place) => this.items.has(keys[place]) || this.items.set(keys[place], this.item(one)));
     this.shrink(found.length === 0);
     arrange(byId('waits-list'), keys.slice(0, MOST_SHOWN).map((key) => this.items.get(key)));
+    found.forEach(({ row }, place) => setText(this.items.get(keys[place]).querySelector('.wait-place'),
+      this.desk.app.round.boardWords(row.number)));
     setText(byId('waits-count'), String(found.length));
     setText(byId('waits-more'), found.length > MOST_SHOWN ? t`${MOST_SHOWN} of ${found.length} are shown.` : '');
     if (!had.isConnected) (byId('waits-list').querySelector('button') || byId('arbiter-title')).focus();
@@ -155,7 +157,8 @@ export class Waits {
     const { desk } = this, isDecided = kind === 'late' || kind === 'law' && !goesOn;
     const decide = () => (standing ? desk.decision.ask(standing, at) : desk.decision.lookUp(row.number));
     return make('li', { class: `wait ${kind}` }, make('span', { class: 'wait-words' }, words),
-      make('span', { class: 'wait-game' }, t`Game ${row.number}: ${names}`),
+      make('span', { class: 'wait-game' }, t`Game ${row.number}: ${names}`, ' ',
+      make('span', { class: 'wait-place small' })),
       make('button', { type: 'button', 'data-key': `show-${row.number}-${kind}`,
         onclick: () => (isDecided ? decide() : desk.showGame(row.number)) },
       isDecided ? t`Decide the result` : t`Show it`, make('span', { class: 'unseen' }, t`, game ${row.number}`)));

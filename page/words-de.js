@@ -87,9 +87,9 @@ export const WORDS = {
   'Was game {0} of {1} and {2} begun by mistake?': 'Wurde Partie {0} von {1} und {2} aus Versehen begonnen?',
   'End it': 'Beenden',
   ['Before both have moved only a resignation ends a game. It is entered for {0}, who is to move: in the record {1} '
-    + 'has won without a game. In a league chess-club decide puts down another result. It cannot be taken back.']:
+    + 'has won without a game. In a league “Decide the result” puts down another. It cannot be taken back.']:
     'Bevor beide gezogen haben, beendet nur eine Aufgabe eine Partie. Sie wird für {0} am Zug eingetragen: in der '
-    + 'Aufzeichnung hat {1} ohne Spiel gewonnen. In einer Liga trägt chess-club decide ein anderes Ergebnis ein. Es '
+    + 'Aufzeichnung hat {1} ohne Spiel gewonnen. In einer Liga trägt „Ergebnis entscheiden“ ein anderes ein. Es '
     + 'lässt sich nicht zurücknehmen.',
   'Both have moved meanwhile. Nothing was entered.': 'Inzwischen haben beide gezogen. Nichts wurde eingetragen.',
   'White resigns': 'Weiß gibt auf',
@@ -800,7 +800,6 @@ export const WORDS = {
   'Game {0} has not ended as a draw by agreement.': 'Partie {0} hat nicht mit einem vereinbarten Remis geendet.',
   'Looked up {0}. Game {1} stands in the record as a draw.':
     'Nachgesehen am {0}. Partie {1} steht in der Aufzeichnung als Remis.',
-  'It is copied.': 'Es ist kopiert.',
   'Open the games of this round: {0}?': 'Die Partien dieser Runde eröffnen: {0}?',
   'Open these games': 'Diese Partien eröffnen',
   'Each is opened for White and joined for Black. From then on the clocks run.':
@@ -810,7 +809,6 @@ export const WORDS = {
     'Die Verbindung ist abgerissen, bevor die Antwort kam. Eröffne die anderen, sobald sie wieder da ist: '
     + 'kein Brett bekommt eine zweite Partie.',
   'Board {0}': 'Brett {0}',
-  '{0} has no opponent': '{0} hat keinen Gegner',
   'from {0} on': 'ab {0}',
   'The first line has to be {0}': 'Die erste Zeile muss {0} sein',
   'it has not five fields': 'sie hat nicht fünf Felder',
@@ -830,7 +828,6 @@ export const WORDS = {
   'Or from a file': 'Oder aus einer Datei',
   'Pairings as CSV, a line a board': 'Ansetzungen als CSV, eine Zeile je Brett',
   'Open a round': 'Eine Runde eröffnen',
-  'Copy the games for chess-club start': 'Partien für chess-club start kopieren',
   'Look it up': 'Nachsehen',
   '{0} has not accepted your game.': '{0} hat deine Partie nicht angenommen.',
   'Another game of yours goes on: press “Accept” again to play both at once.':
@@ -994,7 +991,6 @@ export const WORDS = {
   'The game’s number': 'Nummer der Partie',
   'Game {0} goes on: first its result is entered.': 'Partie {0} läuft noch: zuerst wird ihr Ergebnis eingetragen.',
   'No such board was told of this round.': 'Von dieser Runde ist kein solches Brett bekannt.',
-  'This board has a bye.': 'Dieses Brett hat spielfrei.',
   'No game is known of this board.': 'Von diesem Brett ist keine Partie bekannt.',
   'Decide the result of board {0} of round {1}: {2} – {3}': 'Das Ergebnis von Brett {0} der Runde {1} entscheiden: {2} – {3}',
   'Board {0} of round {1} is the bye of {2}.': 'Brett {0} der Runde {1} ist das Freilos von {2}.',
@@ -1014,11 +1010,25 @@ export const WORDS = {
     + 'Partie. Begonnene gehen weiter.',
   'The position on the board stands for the first time.': 'Die Stellung auf dem Brett steht zum ersten Mal da.',
   'The position on the board has stood {0} times.': 'Die Stellung auf dem Brett stand schon {0}-mal da.',
-  'The full names stand above as short ones now, as chess-club start takes them.':
-    'Die vollen Namen stehen oben jetzt als kurze, wie chess-club start sie nimmt.',
   '{0} is the full name of {1}: write which of them it is':
     '{0} ist der volle Name von {1}: schreibe, wer davon gemeint ist',
   'These signs cannot be sent: {0}. Write it without them.':
     'Diese Zeichen lassen sich nicht senden: {0}. Schreibe es ohne sie.',
   'It is told so: {0}': 'So wird es gesagt: {0}',
+  'The pairings stand above now as chess-club start takes them.':
+    'Die Ansetzungen stehen jetzt oben so, wie chess-club start sie nimmt.',
+  'In no row, and so without a point in this round: {0}': 'In keiner Zeile, und darum ohne Punkt in dieser Runde: {0}',
+  ['For the standings: save the pairings as {0} in the evening’s folder on the club’s machine. Once their games '
+    + 'are open run the command there, with that folder for FOLDER.']:
+    'Für die Tabelle: speichere die Ansetzungen als {0} im Ordner des Abends auf dem Rechner des Vereins. Sind '
+    + 'ihre Partien eröffnet, führe dort den Befehl aus, mit diesem Ordner für FOLDER.',
+  '{0} has no opponent: a bye worth {1}': '{0} hat keinen Gegner: spielfrei, {1}',
+  'Open no game: it is played elsewhere': 'Keine Partie eröffnen: sie wird anderswo gespielt',
+  'the sign of a bye is none of U, F, H and Z': 'das Zeichen für spielfrei ist keines von U, F, H und Z',
+  'Save the pairings': 'Ansetzungen speichern',
+  'played elsewhere': 'anderswo gespielt',
+  'This board has a bye: its sign in the pairings, U, F, H or Z, says what it is worth.':
+    'Dieses Brett ist spielfrei: was es wert ist, sagt sein Zeichen in den Ansetzungen, U, F, H oder Z.',
+  'Boards without a game, as those that are played elsewhere:':
+    'Bretter ohne Partie, wie die, an denen anderswo gespielt wird:',
 };

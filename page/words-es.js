@@ -84,9 +84,9 @@ export const WORDS = {
   'Was game {0} of {1} and {2} begun by mistake?': '¿Se empezó por error la partida {0} de {1} y {2}?',
   'End it': 'Terminarla',
   ['Before both have moved only a resignation ends a game. It is entered for {0}, who is to move: in the record {1} '
-    + 'has won without a game. In a league chess-club decide puts down another result. It cannot be taken back.']:
+    + 'has won without a game. In a league “Decide the result” puts down another. It cannot be taken back.']:
     'Antes de que ambos hayan jugado, solo un abandono termina una partida. Se anota por {0}, a quien le toca: en el '
-    + 'registro {1} ha ganado sin jugar. En una liga, chess-club decide anota otro resultado. No se puede deshacer.',
+    + 'registro {1} ha ganado sin jugar. En una liga, «Decidir el resultado» anota otro. No se puede deshacer.',
   'Both have moved meanwhile. Nothing was entered.': 'Entretanto ambos han jugado. No se anotó nada.',
   'White resigns': 'Abandonan blancas',
   'Black resigns': 'Abandonan negras',
@@ -793,7 +793,6 @@ export const WORDS = {
   'Your own': 'Las tuyas',
   'Game {0} has not ended as a draw by agreement.': 'La partida {0} no terminó en tablas de común acuerdo.',
   'Looked up {0}. Game {1} stands in the record as a draw.': 'Consultada el {0}. La partida {1} consta como tablas.',
-  'It is copied.': 'Copiado.',
   'Open the games of this round: {0}?': '¿Abrir las partidas de esta ronda: {0}?',
   'Open these games': 'Abrir estas partidas',
   'Each is opened for White and joined for Black. From then on the clocks run.':
@@ -803,7 +802,6 @@ export const WORDS = {
     'La conexión se cortó antes de la respuesta. Abre las demás en cuanto vuelva: ningún tablero recibe una '
     + 'segunda partida.',
   'Board {0}': 'Tablero {0}',
-  '{0} has no opponent': '{0} no tiene rival',
   'from {0} on': 'desde el {0}',
   'The first line has to be {0}': 'La primera línea ha de ser {0}',
   'it has not five fields': 'no tiene cinco campos',
@@ -822,7 +820,6 @@ export const WORDS = {
   'Or from a file': 'O de un archivo',
   'Pairings as CSV, a line a board': 'Emparejamientos en CSV, una línea por tablero',
   'Open a round': 'Abrir una ronda',
-  'Copy the games for chess-club start': 'Copiar las partidas para chess-club start',
   'Look it up': 'Buscarla',
   '{0} has not accepted your game.': '{0} no ha aceptado tu partida.',
   'Another game of yours goes on: press “Accept” again to play both at once.':
@@ -985,7 +982,6 @@ export const WORDS = {
   'The game’s number': 'Número de la partida',
   'Game {0} goes on: first its result is entered.': 'La partida {0} sigue: primero se anota su resultado.',
   'No such board was told of this round.': 'De esta ronda no se conoce tal tablero.',
-  'This board has a bye.': 'Este tablero descansa.',
   'No game is known of this board.': 'De este tablero no se conoce ninguna partida.',
   'Decide the result of board {0} of round {1}: {2} – {3}': 'Decidir el resultado del tablero {0} de la ronda {1}: {2} – {3}',
   'Board {0} of round {1} is the bye of {2}.': 'El tablero {0} de la ronda {1} es el descanso de {2}.',
@@ -1005,11 +1001,25 @@ export const WORDS = {
     + 'comenzadas siguen.',
   'The position on the board stands for the first time.': 'La posición del tablero se da por primera vez.',
   'The position on the board has stood {0} times.': 'La posición del tablero se ha dado {0} veces.',
-  'The full names stand above as short ones now, as chess-club start takes them.':
-    'Los nombres completos están ahora arriba como nombres cortos, como los toma chess-club start.',
   '{0} is the full name of {1}: write which of them it is':
     '{0} es el nombre completo de {1}: escribe cuál de ellos es',
   'These signs cannot be sent: {0}. Write it without them.':
     'Estos signos no se pueden enviar: {0}. Escríbelo sin ellos.',
   'It is told so: {0}': 'Se dice así: {0}',
+  'The pairings stand above now as chess-club start takes them.':
+    'Los emparejamientos están ahora arriba como los toma chess-club start.',
+  'In no row, and so without a point in this round: {0}': 'En ninguna fila, y por tanto sin punto en esta ronda: {0}',
+  ['For the standings: save the pairings as {0} in the evening’s folder on the club’s machine. Once their games '
+    + 'are open run the command there, with that folder for FOLDER.']:
+    'Para la clasificación: guarda los emparejamientos como {0} en la carpeta de la velada, en la máquina del '
+    + 'club. Cuando sus partidas estén abiertas, ejecuta allí la orden, con esa carpeta por FOLDER.',
+  '{0} has no opponent: a bye worth {1}': '{0} no tiene rival: descanso que vale {1}',
+  'Open no game: it is played elsewhere': 'No abrir partida: se juega en otro lugar',
+  'the sign of a bye is none of U, F, H and Z': 'el signo del descanso no es ninguno de U, F, H y Z',
+  'Save the pairings': 'Guardar los emparejamientos',
+  'played elsewhere': 'jugada en otro lugar',
+  'This board has a bye: its sign in the pairings, U, F, H or Z, says what it is worth.':
+    'Este tablero descansa: lo que vale lo dice su signo en los emparejamientos, U, F, H o Z.',
+  'Boards without a game, as those that are played elsewhere:':
+    'Tableros sin partida, como los que se juegan en otro lugar:',
 };

@@ -89,9 +89,9 @@ export const WORDS = {
   'Was game {0} of {1} and {2} begun by mistake?': 'La partie {0} de {1} et {2} a-t-elle commencé par erreur ?',
   'End it': 'La terminer',
   ['Before both have moved only a resignation ends a game. It is entered for {0}, who is to move: in the record {1} '
-    + 'has won without a game. In a league chess-club decide puts down another result. It cannot be taken back.']:
+    + 'has won without a game. In a league “Decide the result” puts down another. It cannot be taken back.']:
     'Avant que les deux aient joué, seul un abandon termine une partie. Il est inscrit pour {0}, au trait : dans les '
-    + 'archives, {1} a gagné sans jouer. Dans un championnat, chess-club decide inscrit un autre résultat. C’est '
+    + 'archives, {1} a gagné sans jouer. Dans un championnat, « Décider le résultat » en inscrit un autre. C’est '
     + 'irrévocable.',
   'Both have moved meanwhile. Nothing was entered.': 'Les deux ont joué entre-temps. Rien n’a été inscrit.',
   'White resigns': 'Abandon des Blancs',
@@ -806,7 +806,6 @@ export const WORDS = {
     'La partie {0} ne s’est pas terminée par une nulle d’un commun accord.',
   'Looked up {0}. Game {1} stands in the record as a draw.':
     'Consultée le {0}. La partie {1} est enregistrée comme nulle.',
-  'It is copied.': 'C’est copié.',
   'Open the games of this round: {0}?': 'Ouvrir les parties de cette ronde : {0} ?',
   'Open these games': 'Ouvrir ces parties',
   'Each is opened for White and joined for Black. From then on the clocks run.':
@@ -816,7 +815,6 @@ export const WORDS = {
     'La connexion s’est rompue avant la réponse. Ouvrez les autres dès qu’elle sera rétablie : aucun '
     + 'échiquier ne reçoit une seconde partie.',
   'Board {0}': 'Échiquier {0}',
-  '{0} has no opponent': '{0} n’a pas d’adversaire',
   'from {0} on': 'à partir du {0}',
   'The first line has to be {0}': 'La première ligne doit être {0}',
   'it has not five fields': 'elle n’a pas cinq champs',
@@ -836,7 +834,6 @@ export const WORDS = {
   'Or from a file': 'Ou depuis un fichier',
   'Pairings as CSV, a line a board': 'Appariements en CSV, une ligne par échiquier',
   'Open a round': 'Ouvrir une ronde',
-  'Copy the games for chess-club start': 'Copier les parties pour chess-club start',
   'Look it up': 'La chercher',
   '{0} has not accepted your game.': '{0} n’a pas accepté votre partie.',
   'Another game of yours goes on: press “Accept” again to play both at once.':
@@ -1001,7 +998,6 @@ export const WORDS = {
   'The game’s number': 'Numéro de la partie',
   'Game {0} goes on: first its result is entered.': 'La partie {0} continue : son résultat est d’abord à inscrire.',
   'No such board was told of this round.': 'Cette ronde n’a pas d’échiquier de ce numéro.',
-  'This board has a bye.': 'Cet échiquier est exempt.',
   'No game is known of this board.': 'On ne connaît pas de partie de cet échiquier.',
   'Decide the result of board {0} of round {1}: {2} – {3}':
     'Décider le résultat de l’échiquier {0} de la ronde {1} : {2} – {3}',
@@ -1022,10 +1018,25 @@ export const WORDS = {
     + 'ont commencé continuent.',
   'The position on the board stands for the first time.': 'La position sur l’échiquier apparaît pour la première fois.',
   'The position on the board has stood {0} times.': 'La position sur l’échiquier est apparue {0} fois.',
-  'The full names stand above as short ones now, as chess-club start takes them.':
-    'Les noms complets sont maintenant remplacés ci-dessus par les noms courts, tels que chess-club start les prend.',
   '{0} is the full name of {1}: write which of them it is': '{0} est le nom complet de {1} : écrivez duquel il s’agit',
   'These signs cannot be sent: {0}. Write it without them.':
     'Ces signes ne peuvent pas être envoyés : {0}. Écrivez sans eux.',
   'It is told so: {0}': 'C’est annoncé ainsi : {0}',
+  'The pairings stand above now as chess-club start takes them.':
+    'Les appariements sont maintenant ci-dessus comme chess-club start les prend.',
+  'In no row, and so without a point in this round: {0}':
+    'Dans aucune ligne, et donc sans point dans cette ronde : {0}',
+  ['For the standings: save the pairings as {0} in the evening’s folder on the club’s machine. Once their games '
+    + 'are open run the command there, with that folder for FOLDER.']:
+    'Pour le classement : enregistrez les appariements sous {0} dans le dossier de la soirée, sur la machine du '
+    + 'club. Une fois leurs parties ouvertes, lancez-y la commande, avec ce dossier pour FOLDER.',
+  '{0} has no opponent: a bye worth {1}': '{0} n’a pas d’adversaire : exempt, {1}',
+  'Open no game: it is played elsewhere': 'N’ouvrir aucune partie : elle est jouée ailleurs',
+  'the sign of a bye is none of U, F, H and Z': 'le signe de l’exemption n’est aucun de U, F, H et Z',
+  'Save the pairings': 'Enregistrer les appariements',
+  'played elsewhere': 'jouée ailleurs',
+  'This board has a bye: its sign in the pairings, U, F, H or Z, says what it is worth.':
+    'Cet échiquier est exempt : ce que cela vaut, son signe le dit dans les appariements, U, F, H ou Z.',
+  'Boards without a game, as those that are played elsewhere:':
+    'Échiquiers sans partie, comme ceux qui sont joués ailleurs :',
 };

@@ -86,9 +86,9 @@ export const WORDS = {
   'Was game {0} of {1} and {2} begun by mistake?': 'La partita {0} di {1} e {2} è iniziata per errore?',
   'End it': 'Terminala',
   ['Before both have moved only a resignation ends a game. It is entered for {0}, who is to move: in the record {1} '
-    + 'has won without a game. In a league chess-club decide puts down another result. It cannot be taken back.']:
+    + 'has won without a game. In a league “Decide the result” puts down another. It cannot be taken back.']:
     'Prima che entrambi abbiano mosso, solo un abbandono termina una partita. È registrato per {0}, a cui tocca: nel '
-    + 'registro {1} ha vinto senza giocare. In un campionato chess-club decide registra un altro risultato. Non si '
+    + 'registro {1} ha vinto senza giocare. In un campionato «Decidi il risultato» ne registra un altro. Non si '
     + 'può annullare.',
   'Both have moved meanwhile. Nothing was entered.':
     'Nel frattempo entrambi hanno mosso. Non è stato registrato nulla.',
@@ -798,7 +798,6 @@ export const WORDS = {
   'Game {0} has not ended as a draw by agreement.': 'La partita {0} non è finita patta per accordo.',
   'Looked up {0}. Game {1} stands in the record as a draw.':
     'Consultata il {0}. La partita {1} risulta patta nel registro.',
-  'It is copied.': 'Copiato.',
   'Open the games of this round: {0}?': 'Aprire le partite di questo turno: {0}?',
   'Open these games': 'Apri queste partite',
   'Each is opened for White and joined for Black. From then on the clocks run.':
@@ -808,7 +807,6 @@ export const WORDS = {
     'La connessione si è interrotta prima della risposta. Apri le altre appena torna: nessuna scacchiera '
     + 'riceve una seconda partita.',
   'Board {0}': 'Scacchiera {0}',
-  '{0} has no opponent': '{0} non ha avversario',
   'from {0} on': 'dal {0}',
   'The first line has to be {0}': 'La prima riga deve essere {0}',
   'it has not five fields': 'non ha cinque campi',
@@ -827,7 +825,6 @@ export const WORDS = {
   'Or from a file': 'O da un file',
   'Pairings as CSV, a line a board': 'Abbinamenti in CSV, una riga per scacchiera',
   'Open a round': 'Apri un turno',
-  'Copy the games for chess-club start': 'Copia le partite per chess-club start',
   'Look it up': 'Cercala',
   '{0} has not accepted your game.': '{0} non ha accettato la tua partita.',
   'Another game of yours goes on: press “Accept” again to play both at once.':
@@ -991,7 +988,6 @@ export const WORDS = {
   'The game’s number': 'Numero della partita',
   'Game {0} goes on: first its result is entered.': 'La partita {0} continua: prima si registra il suo risultato.',
   'No such board was told of this round.': 'Di questo turno non è nota tale scacchiera.',
-  'This board has a bye.': 'Questa scacchiera riposa.',
   'No game is known of this board.': 'Di questa scacchiera non è nota alcuna partita.',
   'Decide the result of board {0} of round {1}: {2} – {3}':
     'Decidere il risultato della scacchiera {0} del turno {1}: {2} – {3}',
@@ -1012,10 +1008,24 @@ export const WORDS = {
   'The position on the board stands for the first time.':
     'La posizione sulla scacchiera si presenta per la prima volta.',
   'The position on the board has stood {0} times.': 'La posizione sulla scacchiera si è presentata {0} volte.',
-  'The full names stand above as short ones now, as chess-club start takes them.':
-    'I nomi completi stanno ora sopra come nomi brevi, come li prende chess-club start.',
   '{0} is the full name of {1}: write which of them it is': '{0} è il nome completo di {1}: scrivi quale di loro è',
   'These signs cannot be sent: {0}. Write it without them.':
     'Questi segni non si possono inviare: {0}. Scrivi senza di essi.',
   'It is told so: {0}': 'Viene detto così: {0}',
+  'The pairings stand above now as chess-club start takes them.':
+    'Gli abbinamenti stanno ora sopra come li prende chess-club start.',
+  'In no row, and so without a point in this round: {0}': 'In nessuna riga, e quindi senza punto in questo turno: {0}',
+  ['For the standings: save the pairings as {0} in the evening’s folder on the club’s machine. Once their games '
+    + 'are open run the command there, with that folder for FOLDER.']:
+    'Per la classifica: salva gli abbinamenti come {0} nella cartella della serata sulla macchina del circolo. '
+    + 'Quando le loro partite sono aperte esegui lì il comando, con quella cartella per FOLDER.',
+  '{0} has no opponent: a bye worth {1}': '{0} non ha avversario: riposo che vale {1}',
+  'Open no game: it is played elsewhere': 'Non aprire la partita: si gioca altrove',
+  'the sign of a bye is none of U, F, H and Z': 'il segno del riposo non è nessuno fra U, F, H e Z',
+  'Save the pairings': 'Salva gli abbinamenti',
+  'played elsewhere': 'giocata altrove',
+  'This board has a bye: its sign in the pairings, U, F, H or Z, says what it is worth.':
+    'Questa scacchiera riposa: quanto vale lo dice il suo segno negli abbinamenti, U, F, H o Z.',
+  'Boards without a game, as those that are played elsewhere:':
+    'Scacchiere senza partita, come quelle giocate altrove:',
 };

@@ -86,9 +86,9 @@ export const WORDS = {
   'Was game {0} of {1} and {2} begun by mistake?': 'Is partij {0} van {1} en {2} bij vergissing begonnen?',
   'End it': 'Beëindigen',
   ['Before both have moved only a resignation ends a game. It is entered for {0}, who is to move: in the record {1} '
-    + 'has won without a game. In a league chess-club decide puts down another result. It cannot be taken back.']:
+    + 'has won without a game. In a league “Decide the result” puts down another. It cannot be taken back.']:
     'Voordat beiden hebben gezet, eindigt alleen opgave een partij. Die wordt ingevoerd voor {0}, die aan zet is: in '
-    + 'het verslag heeft {1} zonder spel gewonnen. In een competitie voert chess-club decide een andere uitslag in. '
+    + 'het verslag heeft {1} zonder spel gewonnen. In een competitie voert ‘Uitslag bepalen’ een andere in. '
     + 'Het is niet terug te draaien.',
   'Both have moved meanwhile. Nothing was entered.': 'Intussen hebben beiden gezet. Er is niets ingevoerd.',
   'White resigns': 'Wit geeft op',
@@ -799,7 +799,6 @@ export const WORDS = {
   'Your own': 'Je eigen',
   'Game {0} has not ended as a draw by agreement.': 'Partij {0} is niet in onderling overleg remise geworden.',
   'Looked up {0}. Game {1} stands in the record as a draw.': 'Opgezocht op {0}. Partij {1} staat te boek als remise.',
-  'It is copied.': 'Het is gekopieerd.',
   'Open the games of this round: {0}?': 'De partijen van deze ronde openen: {0}?',
   'Open these games': 'Deze partijen openen',
   'Each is opened for White and joined for Black. From then on the clocks run.':
@@ -809,7 +808,6 @@ export const WORDS = {
     'De verbinding brak voordat het antwoord kwam. Open de andere zodra ze er weer is: geen bord krijgt een '
     + 'tweede partij.',
   'Board {0}': 'Bord {0}',
-  '{0} has no opponent': '{0} heeft geen tegenstander',
   'from {0} on': 'vanaf {0}',
   'The first line has to be {0}': 'De eerste regel moet {0} zijn',
   'it has not five fields': 'ze heeft geen vijf velden',
@@ -829,7 +827,6 @@ export const WORDS = {
   'Or from a file': 'Of uit een bestand',
   'Pairings as CSV, a line a board': 'Indeling als CSV, een regel per bord',
   'Open a round': 'Een ronde openen',
-  'Copy the games for chess-club start': 'Partijen kopiëren voor chess-club start',
   'Look it up': 'Opzoeken',
   '{0} has not accepted your game.': '{0} heeft je partij niet aangenomen.',
   'Another game of yours goes on: press “Accept” again to play both at once.':
@@ -992,7 +989,6 @@ export const WORDS = {
   'The game’s number': 'Nummer van de partij',
   'Game {0} goes on: first its result is entered.': 'Partij {0} gaat door: eerst wordt haar uitslag ingevoerd.',
   'No such board was told of this round.': 'Van deze ronde is zo’n bord niet bekend.',
-  'This board has a bye.': 'Dit bord is vrij.',
   'No game is known of this board.': 'Van dit bord is geen partij bekend.',
   'Decide the result of board {0} of round {1}: {2} – {3}': 'De uitslag van bord {0} van ronde {1} beslissen: {2} – {3}',
   'Board {0} of round {1} is the bye of {2}.': 'Bord {0} van ronde {1} is de vrije ronde van {2}.',
@@ -1011,10 +1007,24 @@ export const WORDS = {
     + 'Begonnen partijen gaan door.',
   'The position on the board stands for the first time.': 'De stelling op het bord staat er voor de eerste keer.',
   'The position on the board has stood {0} times.': 'De stelling op het bord heeft er {0} keer gestaan.',
-  'The full names stand above as short ones now, as chess-club start takes them.':
-    'De volledige namen staan hierboven nu als korte namen, zoals chess-club start ze neemt.',
   '{0} is the full name of {1}: write which of them it is': '{0} is de volledige naam van {1}: schrijf wie het is',
   'These signs cannot be sent: {0}. Write it without them.':
     'Deze tekens kunnen niet worden verzonden: {0}. Schrijf het zonder.',
   'It is told so: {0}': 'Het wordt zo gezegd: {0}',
+  'The pairings stand above now as chess-club start takes them.':
+    'De indeling staat nu hierboven zoals chess-club start die neemt.',
+  'In no row, and so without a point in this round: {0}': 'Op geen regel, en dus zonder punt in deze ronde: {0}',
+  ['For the standings: save the pairings as {0} in the evening’s folder on the club’s machine. Once their games '
+    + 'are open run the command there, with that folder for FOLDER.']:
+    'Voor de stand: bewaar de indeling als {0} in de map van de avond op de machine van de club. Zijn de partijen '
+    + 'geopend, voer daar dan de opdracht uit, met die map voor FOLDER.',
+  '{0} has no opponent: a bye worth {1}': '{0} heeft geen tegenstander: vrij, {1}',
+  'Open no game: it is played elsewhere': 'Geen partij openen: er wordt elders gespeeld',
+  'the sign of a bye is none of U, F, H and Z': 'het teken voor vrij is geen van U, F, H en Z',
+  'Save the pairings': 'Indeling bewaren',
+  'played elsewhere': 'elders gespeeld',
+  'This board has a bye: its sign in the pairings, U, F, H or Z, says what it is worth.':
+    'Dit bord is vrij: wat het waard is, zegt zijn teken in de indeling, U, F, H of Z.',
+  'Boards without a game, as those that are played elsewhere:':
+    'Borden zonder partij, zoals die elders gespeeld worden:',
 };

@@ -85,9 +85,9 @@ export const WORDS = {
   'Was game {0} of {1} and {2} begun by mistake?': 'Czy partię {0} ({1} i {2}) rozpoczęto przez pomyłkę?',
   'End it': 'Zakończ',
   ['Before both have moved only a resignation ends a game. It is entered for {0}, who is to move: in the record {1} '
-    + 'has won without a game. In a league chess-club decide puts down another result. It cannot be taken back.']:
+    + 'has won without a game. In a league “Decide the result” puts down another. It cannot be taken back.']:
     'Zanim obie strony wykonają ruch, partię kończy tylko poddanie. Zapisuje się je za stronę na posunięciu ({0}): w '
-    + 'zapisie wygrywa bez gry {1}. W lidze chess-club decide zapisuje inny wynik. Tego nie można cofnąć.',
+    + 'zapisie wygrywa bez gry {1}. W lidze „Rozstrzygnij wynik” zapisuje inny. Tego nie można cofnąć.',
   'Both have moved meanwhile. Nothing was entered.': 'Tymczasem obie strony wykonały ruch. Niczego nie zapisano.',
   'White resigns': 'Białe się poddają',
   'Black resigns': 'Czarne się poddają',
@@ -791,7 +791,6 @@ export const WORDS = {
   'Game {0} has not ended as a draw by agreement.': 'Partia {0} nie skończyła się remisem za zgodą stron.',
   'Looked up {0}. Game {1} stands in the record as a draw.':
     'Sprawdzona: {0}. W zapisie partia {1} figuruje jako remis.',
-  'It is copied.': 'Skopiowano.',
   'Open the games of this round: {0}?': 'Otworzyć partie tej rundy: {0}?',
   'Open these games': 'Otwórz te partie',
   'Each is opened for White and joined for Black. From then on the clocks run.':
@@ -801,7 +800,6 @@ export const WORDS = {
     'Połączenie zostało przerwane przed odpowiedzią. Otwórz pozostałe, gdy wróci: żadna szachownica nie '
     + 'dostanie drugiej partii.',
   'Board {0}': 'Szachownica {0}',
-  '{0} has no opponent': '{0} nie ma przeciwnika',
   'from {0} on': 'od {0}',
   'The first line has to be {0}': 'Pierwszy wiersz musi brzmieć {0}',
   'it has not five fields': 'nie ma pięciu pól',
@@ -820,7 +818,6 @@ export const WORDS = {
   'Or from a file': 'Albo z pliku',
   'Pairings as CSV, a line a board': 'Kojarzenia w CSV, wiersz na szachownicę',
   'Open a round': 'Otwórz rundę',
-  'Copy the games for chess-club start': 'Kopiuj partie dla chess-club start',
   'Look it up': 'Wyszukaj',
   '{0} has not accepted your game.': '{0}: twoja partia nie została przyjęta.',
   'Another game of yours goes on: press “Accept” again to play both at once.':
@@ -980,7 +977,6 @@ export const WORDS = {
   'The game’s number': 'Numer partii',
   'Game {0} goes on: first its result is entered.': 'Partia {0} trwa: najpierw zapisuje się jej wynik.',
   'No such board was told of this round.': 'W tej rundzie nie ma takiej szachownicy.',
-  'This board has a bye.': 'Ta szachownica pauzuje.',
   'No game is known of this board.': 'Partia tej szachownicy nie jest znana.',
   'Decide the result of board {0} of round {1}: {2} – {3}':
     'Rozstrzygnij wynik szachownicy {0} rundy {1}: {2} – {3}',
@@ -1001,10 +997,24 @@ export const WORDS = {
     + 'trwają dalej.',
   'The position on the board stands for the first time.': 'Pozycja na szachownicy powstała po raz pierwszy.',
   'The position on the board has stood {0} times.': 'Pozycja na szachownicy powstała już {0} {0:raz|razy|razy}.',
-  'The full names stand above as short ones now, as chess-club start takes them.':
-    'Pełne nazwiska stoją teraz powyżej jako krótkie nazwy, jakie przyjmuje chess-club start.',
   '{0} is the full name of {1}: write which of them it is':
     '{0} to pełne nazwisko graczy {1}: napisz, który z nich to jest',
   'These signs cannot be sent: {0}. Write it without them.': 'Tych znaków nie można wysłać: {0}. Napisz to bez nich.',
   'It is told so: {0}': 'Zostanie to podane tak: {0}',
+  'The pairings stand above now as chess-club start takes them.':
+    'Kojarzenia stoją teraz powyżej tak, jak bierze je chess-club start.',
+  'In no row, and so without a point in this round: {0}': 'W żadnym wierszu, a więc bez punktu w tej rundzie: {0}',
+  ['For the standings: save the pairings as {0} in the evening’s folder on the club’s machine. Once their games '
+    + 'are open run the command there, with that folder for FOLDER.']:
+    'Do klasyfikacji: zapisz kojarzenia jako {0} w folderze wieczoru na komputerze klubu. Gdy ich partie są '
+    + 'otwarte, wykonaj tam polecenie, z tym folderem w miejscu FOLDER.',
+  '{0} has no opponent: a bye worth {1}': '{0} nie ma przeciwnika: pauza warta {1}',
+  'Open no game: it is played elsewhere': 'Nie otwieraj partii: gra się gdzie indziej',
+  'the sign of a bye is none of U, F, H and Z': 'znak pauzy nie jest żadnym z U, F, H i Z',
+  'Save the pairings': 'Zapisz kojarzenia',
+  'played elsewhere': 'rozegrana gdzie indziej',
+  'This board has a bye: its sign in the pairings, U, F, H or Z, says what it is worth.':
+    'Na tej szachownicy jest pauza: ile jest warta, mówi jej znak w kojarzeniach, U, F, H lub Z.',
+  'Boards without a game, as those that are played elsewhere:':
+    'Szachownice bez partii, jak te, na których gra się gdzie indziej:',
 };

@@ -85,9 +85,9 @@ export const WORDS = {
   'Was game {0} of {1} and {2} begun by mistake?': 'A partida {0} de {1} e {2} começou por engano?',
   'End it': 'Encerrar',
   ['Before both have moved only a resignation ends a game. It is entered for {0}, who is to move: in the record {1} '
-    + 'has won without a game. In a league chess-club decide puts down another result. It cannot be taken back.']:
+    + 'has won without a game. In a league “Decide the result” puts down another. It cannot be taken back.']:
     'Antes que os dois tenham jogado, só um abandono encerra uma partida. Ele é registrado por {0}, que tem a vez: '
-    + 'no registro, {1} venceu sem jogar. Numa liga, chess-club decide registra outro resultado. Não pode ser '
+    + 'no registro, {1} venceu sem jogar. Numa liga, “Decidir o resultado” registra outro. Não pode ser '
     + 'desfeito.',
   'Both have moved meanwhile. Nothing was entered.': 'Enquanto isso, os dois jogaram. Nada foi registrado.',
   'White resigns': 'Brancas abandonam',
@@ -788,7 +788,6 @@ export const WORDS = {
   'Your own': 'As suas',
   'Game {0} has not ended as a draw by agreement.': 'A partida {0} não terminou em empate por acordo.',
   'Looked up {0}. Game {1} stands in the record as a draw.': 'Consultada em {0}. A partida {1} consta como empate.',
-  'It is copied.': 'Copiado.',
   'Open the games of this round: {0}?': 'Abrir as partidas desta rodada: {0}?',
   'Open these games': 'Abrir estas partidas',
   'Each is opened for White and joined for Black. From then on the clocks run.':
@@ -798,7 +797,6 @@ export const WORDS = {
     'A conexão caiu antes da resposta. Abra as outras assim que ela voltar: nenhum tabuleiro recebe uma '
     + 'segunda partida.',
   'Board {0}': 'Tabuleiro {0}',
-  '{0} has no opponent': '{0} não tem adversário',
   'from {0} on': 'a partir de {0}',
   'The first line has to be {0}': 'A primeira linha tem de ser {0}',
   'it has not five fields': 'ela não tem cinco campos',
@@ -817,7 +815,6 @@ export const WORDS = {
   'Or from a file': 'Ou de um arquivo',
   'Pairings as CSV, a line a board': 'Emparceiramentos em CSV, uma linha por tabuleiro',
   'Open a round': 'Abrir uma rodada',
-  'Copy the games for chess-club start': 'Copiar as partidas para chess-club start',
   'Look it up': 'Procurar',
   '{0} has not accepted your game.': '{0} não aceitou a sua partida.',
   'Another game of yours goes on: press “Accept” again to play both at once.':
@@ -978,7 +975,6 @@ export const WORDS = {
   'The game’s number': 'Número da partida',
   'Game {0} goes on: first its result is entered.': 'A partida {0} continua: primeiro se registra o resultado.',
   'No such board was told of this round.': 'Desta ronda não se conhece tal tabuleiro.',
-  'This board has a bye.': 'Este tabuleiro folga.',
   'No game is known of this board.': 'Deste tabuleiro não se conhece nenhuma partida.',
   'Decide the result of board {0} of round {1}: {2} – {3}':
     'Decidir o resultado do tabuleiro {0} da ronda {1}: {2} – {3}',
@@ -998,10 +994,24 @@ export const WORDS = {
     + 'continuam.',
   'The position on the board stands for the first time.': 'A posição no tabuleiro acontece pela primeira vez.',
   'The position on the board has stood {0} times.': 'A posição no tabuleiro já aconteceu {0} vezes.',
-  'The full names stand above as short ones now, as chess-club start takes them.':
-    'Os nomes completos estão agora acima como nomes curtos, como chess-club start os aceita.',
   '{0} is the full name of {1}: write which of them it is': '{0} é o nome completo de {1}: escreva qual deles é',
   'These signs cannot be sent: {0}. Write it without them.':
     'Estes sinais não podem ser enviados: {0}. Escreva sem eles.',
   'It is told so: {0}': 'Será dito assim: {0}',
+  'The pairings stand above now as chess-club start takes them.':
+    'Os emparceiramentos estão agora acima como chess-club start os toma.',
+  'In no row, and so without a point in this round: {0}': 'Em nenhuma linha, e portanto sem ponto nesta rodada: {0}',
+  ['For the standings: save the pairings as {0} in the evening’s folder on the club’s machine. Once their games '
+    + 'are open run the command there, with that folder for FOLDER.']:
+    'Para a classificação: salve os emparceiramentos como {0} na pasta da noite, na máquina do clube. Quando as '
+    + 'partidas estiverem abertas, execute lá o comando, com essa pasta no lugar de FOLDER.',
+  '{0} has no opponent: a bye worth {1}': '{0} não tem adversário: isento, {1}',
+  'Open no game: it is played elsewhere': 'Não abrir partida: é jogada noutro lugar',
+  'the sign of a bye is none of U, F, H and Z': 'o sinal da folga não é nenhum de U, F, H e Z',
+  'Save the pairings': 'Salvar os emparceiramentos',
+  'played elsewhere': 'jogada noutro lugar',
+  'This board has a bye: its sign in the pairings, U, F, H or Z, says what it is worth.':
+    'Este tabuleiro está isento: quanto vale diz o seu sinal nos emparceiramentos, U, F, H ou Z.',
+  'Boards without a game, as those that are played elsewhere:':
+    'Tabuleiros sem partida, como os que são jogados noutro lugar:',
 };

@@ -14,6 +14,8 @@ from round import round_told, serves
 PAIRINGS = 'board,white,black,times,start\n1,ann,bob,20,\n2,cid,dee,300,\n'
 # Black's knight never mates a king that has a queen alone.
 KNIGHT = '8/8/4k3/8/8/2n5/8/4KQ2 w - - 0 1'
+CHOSEN = '''const { result } = document.querySelector('#decide-form').elements; result.value = arguments[0];
+    result.dispatchEvent(new Event('input', { bubbles: true }))'''
 AS_PLAYED = '''const form = document.querySelector('#decide-form'); form.elements.result.value = 'as-played';
     form.dispatchEvent(new Event('input'))'''
 # A sum, as a log's last line has one.
@@ -95,6 +97,7 @@ def a_decision(hall):
             'as bob move %s 1 e6d6' % drawn)
     told = round_told(drawn)
     told['rounds'][1][0] |= {'white': 1, 'black': 2}
+    told['rounds'][1].append({'board': 4, 'white': 3, 'black': 4, 'result': '*'})
     serves(hall, json.dumps(told))
     for number in (1, 2):
         put(os.path.join(hall.lobby.folder, 'round%d.csv' % number), PAIRINGS)
@@ -122,10 +125,13 @@ def a_decision(hall):
             'cannot mate', board=1, result='1/2-1/2', white='ann', black='bob', article='6.9', arbiter='Eve Arbiter',
             reason='Black cannot mate by any legal moves')
     shows_decided(hall, drawn, 'Black wins on time')
-    sue.click(on_card(drawn, '[data-key^=decide-]')).type('#decide-form [name=reason]', 'it was another board')
+    sue.click(on_card(drawn, '[data-key^=decide-]'))
+    sue.reads('#decide-stands', '½–½ Draw by the arbiter’s decision: 6.9, Black cannot mate', 'The server says 0–1')
+    sue.is_so(value(sue, 'article') == '', 'what was decided is not filled in again')
+    sue.type('#decide-form [name=reason]', 'it was another board')
     sue.run(AS_PLAYED)
     decides(hall, 2, 'The arbiter has decided board 1 of round 2, Ann Lee – Bob <b>Stone</b> & Sons: as it was played. Why: '
-            '6.9, it was another board', board=1, result='as-played')
+            'it was another board', board=1, result='as-played')
     sue.shows(on_card(drawn, '.desk-state'), '0–1 Black wins on time', 'the server’s result counts again')
     bob.reload().shows('[data-key="look-%s"] .state' % drawn, '0–1', 'in a page anew too')
     here = paired(hall, 'ann', 'cid', '300 0')
@@ -171,9 +177,15 @@ def a_decision(hall):
     put(hall.lobby.kept, KEPT)
     for number, told in ((runs, 'Game %s goes on' % runs), ('4000000001', 'There is no game of this number.')):
         sue.type('#decide-find [name=number]', number).click('#decide-find button').reads('#decide-found', told)
-    for board, told in (('3', 'This board has a bye.'), ('9', 'No such board was told')):
+    for board, told in (('3', 'This board has a bye: its sign'), ('9', 'No such board was told')):
         sue.type('#decide-board-find [name=round]', '1').type('#decide-board-find [name=board]', board)
         sue.click('#decide-board-find button').reads('#decide-found', told)
+    sue.reads('#decide-boards', 'Round 2, board 4: ').click('#decide-boards button')
+    sue.reads('#decide-title', 'board 4 of round 2')
+    for result, why in (('0-1', 'played elsewhere'), ('-/+', 'White did not come in time'), ('as-played', '')):
+        sue.run(CHOSEN, result)
+        sue.is_so(value(sue, 'reason') == why, 'the reason goes with the result')
+    sue.click('#decide-leave')
     sue.type('#decide-board-find [name=board]', '2').click('#decide-board-find button')
     sue.reads('#decide-title', 'board 2 of round 1: Cid Okonkwo – Dee').reads('#decide-stands', 'No game is known')
     sue.run('''document.querySelector('#decide-form').elements.result.value = '0-1' ''')
