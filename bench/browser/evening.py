@@ -659,7 +659,7 @@ def the_board_stays(hall):
         line = ann.box('#telling')
         ann.is_so(line['width'] > 100 and line['height'] < 40, '%d x %d: one line: %s' % (width, height, line))
     ann.screen(1280, 800).click('#telling-opens')
-    well_on_screens(ann, 'the news, opened', '.news .banner')
+    well_on_screens(ann, 'the news, opened', '#news .banner')
     here = ann.driver.current_url
     ann.click('#challenges .strong').reads('#challenges', 'Another game of yours goes on')
     ann.is_so(ann.driver.current_url == here, 'nothing has begun')
