@@ -640,7 +640,7 @@ JOINS = 'return [...document.querySelectorAll("[data-key^=join-]")].map((e) => e
 
 
 def the_board_stays(hall):
-    """What is told does not move the board of who plays. Another game that is offered meanwhile begins once that is
+    """What is told does not move the board of who plays, nor a break. Another game that is offered meanwhile begins once that is
     accepted twice, and at every board one is told of one's own other game."""
     number, ann, bob, sue = hall.begin(minutes='20')
     place = 'const at = document.querySelector("#board").getBoundingClientRect(); return [at.left, at.top, at.width]'
@@ -672,6 +672,12 @@ def the_board_stays(hall):
     ann.loses('#invited', 'that is told until it has ended')
     by_lines(hall, 'eve', 'announce')
     carl.close()
+    hall.lobby.kill()
+    hall.both.finds('#lost', 'a break')
+    ann.is_so(ann.run(place) == stood[0], 'the board is where it was')
+    hall.lobby.start()
+    hall.both.loses('#lost', 'which is over', 40)
+    ann.is_so(ann.run(place) == stood[0], 'and there it stays')
 
 
 def offers_end(hall):
