@@ -168,9 +168,10 @@ export class Openings {
   /** What notes on the club's machine which games are which board's; boards that are played elsewhere are left out. */
   command() {
     const elsewhere = this.boards.filter(({ isElsewhere }) => isElsewhere).map(({ board }) => ` -e '^${board},'`).join('');
-    const pairings = `FOLDER/${this.file()}`, files = elsewhere ? `<(grep -v${elsewhere} ${pairings})` : pairings;
+    const pairings = `FOLDER/${this.file()}`, opened = elsewhere ? 'FOLDER/opened.csv' : pairings;
     const taken = this.boards.filter(({ game }) => game).map(({ board, game }) => ` --take ${board}=${game}`).join('');
-    return taken && `./chess-club start --pairings ${files} --round-file FOLDER/round${this.round()}.games`
+    return taken && (elsewhere && `grep -v${elsewhere} ${pairings} >${opened} && `)
+      + `./chess-club start --pairings ${opened} --round-file FOLDER/round${this.round()}.games`
       + ` --lobby 127.0.0.1:${location.port || '8080'} --token-file FOLDER/arbiter.link${taken}`;
   }
 
