@@ -501,7 +501,7 @@ fn an_act_counts_only_under_its_name(rt: &impl Abort, lab: &mut Lab) {
 // (it is not read in the turn behind one in which something was written to it)
 const ASKS: &[u8] =
     b"GET /health HTTP/1.1\r\nHost: a:1\r\n\r\n~GET /health HTTP/1.1\r\nHost: a:1\r\n\r\n\
-    ~~GET /health HTTP/1.1\r\nHost: a:1\r\n\r\n";
+    ~GET /health HTTP/1.1\r\nHost: a:1\r\n\r\n";
 
 fn a_file_changes_between_turns(rt: &impl Abort, lab: &mut Lab) {
     lab.begin(rt, &(ASKS, b"", How::Plainly));
