@@ -127,7 +127,8 @@ is_untimely (Some heards.Opened) (Some c) = true
 is_untimely (Some (heards.Text text)) None = true
 is_untimely (Some (heards.Text text)) (Some c) = false
 
--- A browser's socket is asked what came next, and the desk is told that. Where something came, more may have come.
+-- A browser's socket is asked what came next, and the desk is told that. Where something came, more may have come, and
+-- where nothing did, nothing more has.
 pub record IsAsked {S : Type 0} (at : ℕ) (old new : Guest S) (talk after : Talk) : Type 0 where
   pub heard : Option Heard
   pub gives : HearsNext old.browser.stage new.browser.stage heard
@@ -137,7 +138,7 @@ pub record IsAsked {S : Type 0} (at : ℕ) (old new : Guest S) (talk after : Tal
   pub visit : IsSameVisit old new
   pub logins : new.logins_until ≡ old.logins_until
   pub lost : new.is_lost ≡ (is_untimely heard old.number || old.is_lost)
-  pub more : is_some heard ≡ true → new.has_more ≡ old.has_more
+  pub more : new.has_more ≡ (is_some heard && old.has_more)
 
 -- It is asked, or not: then nothing changes.
 abbrev pub IsHeard : {S : Type 0} → ℕ → Guest S → Guest S → Talk → Talk → Type 0
