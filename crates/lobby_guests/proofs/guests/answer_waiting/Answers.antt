@@ -1,10 +1,11 @@
 -- The replay goes on for who waits longest.
 use Rattle.std.proofs.Common.{List, Option, ℕ, refl, ap, sym, subst, ◌∙◌}
+use Rattle.std.specs.Prelude.{IfSome}
 use Rattle.std.proofs.Math.Logic.{∥∥₁_map}
-use Rattle.std.proofs.lemmas.Result.{on_ok_weaker}
 use Rattle.lobby_talk.specs.declared.kept_answer.KeptAnswer.{KeptAnswer}
 use Rattle.lobby_talk.specs.declared.under_way.UnderWay.{UnderWay}
 use Rattle.lobby_talk.specs.Replaying.{Replays}
+use Rattle.lobby_talk.specs.Keeping.{IsPut}
 use Rattle.lobby_guests.specs.Guests.{wanted_text, AreAnswered}
 use Rattle.lobby_guests.proofs.Catching.{all_caught_none}
 use Rattle.lobby_guests.proofs.guests.answer_waiting.Goals as goal
@@ -18,11 +19,14 @@ returns-in-None-clause-answers g c =
     let old = c.args.talk.now.replay in
     let now = c.replay_on.new.self.replay in
     let next = c.wanted_text.ensures ∙ ap wanted_text c.as_slice.ensures.value in
+    let guests = c.args.guests.now.items in
+    let new = c.replay_on.new.self.kept.answers.items in
     ∥∥₁_map c.in_ok-replay_on.ensures.replays
     (λ goes. (
       c.in_ok-replay_on.field-0,
       subst (λ (n : Option (List ℕ)). Replays kept n old now c.in_ok-replay_on.field-0) next goes,
-      subst (λ (answer : Option KeptAnswer). AreAnswered answer c.args.guests.now.items c.args.guests.now.items) (sym c.in-None.is) refl,
+      subst (λ (answer : Option KeptAnswer). AreAnswered answer guests guests × IfSome answer (λ one. IsPut one new))
+          (sym c.in-None.is) (refl, tt),
     ))
 
 pub returns-in-Some-clause-answers : goal.returns-in-Some-clause-answers
@@ -31,15 +35,15 @@ returns-in-Some-clause-answers g c =
     let old = c.args.talk.now.replay in
     let now = c.replay_on.new.self.replay in
     let next = c.wanted_text.ensures ∙ ap wanted_text c.as_slice.ensures.value in
-    let first = wanted_text c.args.guests.now.items in
-    on_ok_weaker c.keep.result (λ same.
-    subst (λ (r : Option UnderWay). ∥ ((answer : Option KeptAnswer) × Replays kept first old r answer
-    × AreAnswered answer c.args.guests.now.items c.answer_all.new.guests.items) ∥₁) (sym same)
+    let guests = c.args.guests.now.items in
+    let told = c.answer_all.new.guests.items in
+    let new = c.keep.new.self.kept.answers.items in
+    subst (λ (r : Option UnderWay). ∥ ((answer : Option KeptAnswer) × Replays kept (wanted_text guests) old r answer
+    × AreAnswered answer guests told × IfSome answer (λ one. IsPut one new)) ∥₁) (sym c.in_ok-keep.ensures.replay)
     (∥∥₁_map c.in_ok-replay_on.ensures.replays
     (λ goes. (
       c.in_ok-replay_on.field-0,
       subst (λ (n : Option (List ℕ)). Replays kept n old now c.in_ok-replay_on.field-0) next goes,
-      subst (λ (answer : Option KeptAnswer). AreAnswered answer c.args.guests.now.items c.answer_all.new.guests.items)
-          (sym c.in-Some.is) c.answer_all.ensures.answered,
-    ))))
-    c.keep.ensures.replay
+      subst (λ (answer : Option KeptAnswer). AreAnswered answer guests told × IfSome answer (λ one. IsPut one new))
+          (sym c.in-Some.is) (c.answer_all.ensures.answered, c.in_ok-keep.ensures.keeps),
+    )))
