@@ -1,18 +1,18 @@
 //! The archive's file: nights in memory, with every kill.
 use crate::cuts::CUTS;
 use night_archive::{Archive, Fault};
-use night_files::{AppendedFile, Fate, MemoryFile, MemoryTorn};
+use night_files::{Fate, MemoryFile, MemoryTorn};
 use std::alloc::Global;
 use std::process::Abort;
 
 // The games of a night, by number.
-const GAMES: [(u32, &str); 3] = [
+static GAMES: [(u32, &str); 3] = [
     (7, "[White \"a \\\"b\\\"\"]\n\n1. e4 *\n\n"),
     (1, ""),
     (4_294_967_295, "{\\n}\n"),
 ];
 
-const NUMBERS: [u32; 3] = [7, 1, 4_294_967_295];
+static NUMBERS: [u32; 3] = [7, 1, 4_294_967_295];
 
 // Opens an archive, of which what is cut off has a place.
 fn open(alloc: Global, file: MemoryFile) -> Result<Archive<MemoryFile>, Fault> {
@@ -68,7 +68,7 @@ fn kept(alloc: Global, archive: &mut Archive<MemoryFile>, pgn: &[u8]) -> &'stati
     }
 }
 
-const KEPT: [(&[u8], &str); 8] = [
+static KEPT: [(&[u8], &str); 8] = [
     (b"a\tb\n", "control"),
     (b"*\r\n", "control"),
     (b"\0", "control"),
@@ -93,63 +93,4 @@ fn keeps_a_text_once_and_tells_what_it_has(rt: HostRuntime) {
     let file = MemoryFile::new(rt.alloc(), None);
     let mut archive = open(rt.alloc(), file).expect(&rt, "an archive");
     check_kept(&rt, rt.alloc(), &mut archive);
-}
-
-// What is no line of an archive, though a game's number stands in some.
-const OTHERS: [&str; 17] = [
-    "",
-    "{\"act\":1,\"pgn\":\"*\"}",
-    "{\"game\":7",
-    "{\"game\":7,",
-    "{\"game\":7,\"pgn\":\"1. e4",
-    "{\"game\":7,\"pgn\":\"*\"",
-    "{\"game\":7,\"pgn\":\"*\"} ",
-    "{\"game\":7,\"pgn\":\"*\",\"game\":8}",
-    "{\"game\":7,\"moves\":3,\"pgn\":\"*\"}",
-    "{\"game\":7,\"pgn\":\"\\u00fc\"}",
-    "{\"game\":7,\"pgn\":\"\\t\"}",
-    "{\"game\":7,\"pgn\":\"\\/\"}",
-    "{\"game\":7,\"pgn\":\"\t\"}",
-    "{\"game\":07,\"pgn\":\"*\"}",
-    "{\"game\": 7,\"pgn\":\"*\"}",
-    "{\"game\":4294967296,\"pgn\":\"*\"}",
-    "{\"pgn\":\"*\",\"game\":7}",
-];
-
-// A file of a game's line, and what stands behind it.
-fn file_with(rt: &impl Abort, alloc: Global, behind: &str) -> MemoryFile {
-    let mut file = MemoryFile::new(alloc, None);
-    for text in ["{\"game\":1,\"pgn\":\"\"}\n", behind] {
-        file.append(text.as_bytes()).expect(rt, "memory");
-    }
-    file
-}
-
-// (Each is whole: a line feed stands behind it.)
-#[test]
-fn refuses_other_lines(rt: HostRuntime) {
-    for line in &OTHERS {
-        let mut file = file_with(&rt, rt.alloc(), line);
-        file.append(b"\n").expect(&rt, "memory");
-        assert!(rt; matches!(open(rt.alloc(), file), Err(Fault::NotAGame(2))));
-    }
-}
-
-// The beginning of a line.
-const CUT_OFF: &str = "{\"game\":2";
-
-#[test]
-fn what_is_cut_off_has_a_place(rt: HostRuntime) {
-    let mut torn = MemoryTorn::new(rt.alloc(), false);
-    let file = file_with(&rt, rt.alloc(), CUT_OFF);
-    assert!(rt; Archive::open(rt.alloc(), file, &mut torn).is_ok());
-    assert!(rt; torn.bytes() == CUT_OFF.as_bytes());
-    let mut full = MemoryTorn::new(rt.alloc(), true);
-    let file = file_with(&rt, rt.alloc(), CUT_OFF);
-    assert!(rt;
-        matches!(
-            Archive::open(rt.alloc(), file, &mut full),
-            Err(Fault::File(_))
-        )
-    );
 }

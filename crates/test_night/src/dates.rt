@@ -1,7 +1,7 @@
 //! Which texts are dates as the tag Date has them.
 use text_pgn::is_date;
 
-const DATES: [&str; 9] = [
+static DATES: [&str; 9] = [
     "2026.11.27",
     "2024.02.29",
     "2000.02.29",
@@ -13,7 +13,7 @@ const DATES: [&str; 9] = [
     "9999.12.31",
 ];
 
-const OTHERS: [&str; 23] = [
+static OTHERS: [&str; 23] = [
     "",
     "2026",
     "2026.11",

@@ -11,26 +11,12 @@ mod archive;
 #[cfg(test)]
 mod beside;
 #[cfg(test)]
-mod clerk;
-#[cfg(test)]
 mod cuts;
 #[cfg(test)]
 mod dates;
 #[cfg(test)]
 mod figures;
 #[cfg(test)]
-mod headings;
-#[cfg(test)]
-mod moves;
-#[cfg(test)]
-mod positions;
-#[cfg(test)]
-mod report;
-#[cfg(test)]
 mod returned;
 #[cfg(test)]
 mod room;
-#[cfg(test)]
-mod rounds;
-#[cfg(test)]
-mod spectators;
