@@ -1,5 +1,5 @@
-//! Tests of the lobby's browsers, of its loop, and of the players' file with what is kept beside it, by what their crates
-//! export alone: so none of them is proved twice.
+//! Tests of the lobby's browsers, of its loop, and of what is kept beside the players' file, by what their crates export
+//! alone: so none of them is proved twice. (The file's texts stand in `bench/night/rows/players.txt`.)
 #![tactic(auto)]
 
 #[cfg(test)]
@@ -12,7 +12,5 @@ mod frames;
 mod hall;
 #[cfg(test)]
 mod peer;
-#[cfg(test)]
-mod players;
 #[cfg(test)]
 mod requests;
