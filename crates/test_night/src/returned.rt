@@ -1,6 +1,7 @@
-//! An archive and a log behind whose lines a volume has brought back what it had refused.
+//! An archive and a log behind whose lines a volume has brought back what it had refused. (What an archive's opening does
+//! then stands in `bench/night/rows/archive.txt`.)
 use crate::acts::{bytes_of, texts};
-use night_archive::{Archive, lines_of, open_archive};
+use night_archive::{Archive, open_archive};
 use night_files::{AppendedFile, DiskFile, MemoryFile, MemoryTorn};
 use night_log::{Fault, Log};
 use std::alloc::Global;
@@ -11,14 +12,10 @@ use std::rt::Files;
 
 const FILE: &str = "returned_test.jsonl";
 
-const TORN: &str = "returned_test.jsonl.torn";
-
-// A line, the end of a longer one that was to stand in its place, the line of a game that was hurt, and the next one.
+// A line, the end of a longer one that was to stand in its place, and that line and the next one.
 const LINE: &str = "{\"game\":7,\"pgn\":\"*\"}\n";
 
 const END: &str = "1. e4 e5 2. Nf3 1/2-1/2\\n\\n\"}\n";
-
-const HURT: &str = "{\"game\":8,\"pgn\":\"\t\"}\n";
 
 const BOTH: &str = "{\"game\":7,\"pgn\":\"*\"}\n{\"game\":8,\"pgn\":\"*\"}\n";
 
@@ -43,24 +40,13 @@ where
 }
 
 #[test]
-fn what_comes_back_is_put_beside(rt: HostRuntime) {
-    let alloc = rt.alloc();
-    for text in [HURT, END] {
-        let _ = fs::remove_file(&rt, TORN);
-        assert!(rt; fs::write(&rt, FILE, LINE).is_ok());
-        put_behind(&rt, text);
-        let is_end = text == END;
-        assert!(rt; lines_of(&rt, FILE).is_ok() == is_end && opened(&rt).is_some() == is_end);
-        assert!(rt; fs::exists(&rt, TORN).expect(&rt, "an answer") == is_end);
-    }
+fn what_comes_back_is_not_left_between_lines(rt: HostRuntime) {
+    assert!(rt; fs::write(&rt, FILE, LINE).is_ok());
     let mut archive = opened(&rt).expect(&rt, "an archive");
-    // (what comes back under an archive that is open is not left between its lines)
     put_behind(&rt, END);
-    assert!(rt; archive.keep(alloc, 8, b"*").is_ok());
+    assert!(rt; archive.keep(rt.alloc(), 8, b"*").is_ok());
     let text = fs::read_to_string(&rt, FILE).expect(&rt, "a file");
-    let torn = fs::read_to_string(&rt, TORN).expect(&rt, "what came back");
-    assert!(rt; text.as_str() == BOTH && torn.as_str() == END);
-    assert!(rt; fs::remove_file(&rt, FILE).is_ok() && fs::remove_file(&rt, TORN).is_ok());
+    assert!(rt; text.as_str() == BOTH && fs::remove_file(&rt, FILE).is_ok());
 }
 
 // The bytes of a log that was told of ann, and then this text so often.
