@@ -1,11 +1,13 @@
-import re
+import re,glob
 c={}
 for l in open('/work/fin/tools/costs.txt'):
     p=l.split()
     if len(p)>=2 and not l.startswith('#'):
-        try:c[p[0].rstrip(':')]=float(p[1])
+        try:c[p[0]]=float(p[1])
         except: pass
-log=open('/work/notes/log/gate1.log').read()
-done=set(re.findall(r'^rt: (\w+) (?:proved|is kept)',log,re.M))
+done=set()
+for f in ('gate','chain1','chain2','gate2','gate3','chain3','chain4','chain5','chain6','chain7','chain8','chain9','chain10','chain11','chain12'):
+    try: done|=set(re.findall(r'^rt: (\w+) (?:proved|is kept)',open(f'/work/notes/log/{f}.log').read(),re.M))
+    except OSError: pass
 print('done',sum(v for k,v in c.items() if k in done),'left',sum(v for k,v in c.items() if k not in done))
-print({k:v for k,v in c.items() if k not in done})
+print({k:v for k,v in sorted(c.items(),key=lambda x:-x[1]) if k not in done})
