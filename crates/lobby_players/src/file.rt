@@ -1,6 +1,6 @@
 //! Files that are read whole, and put whole in their own places.
 use anyhow::{Result, bail};
-use night_files::{OWNERS_MODE, folder_of, new_file};
+use night_files::{AppendedFile, DiskFile, OWNERS_MODE, folder_of, new_file};
 use std::alloc::Global;
 use std::fs::{File, Metadata, OpenFile, Permissions};
 use std::io::Write;
@@ -108,6 +108,31 @@ pub fn put_file<R: Files>(rt: &R, alloc: Global, file: &str, text: &str) -> Resu
 /// symbolic link is followed.
 pub fn put_own_file<R: Files>(rt: &R, alloc: Global, file: &str, text: &str) -> Result<()> {
     put(rt, alloc, file, Permissions::from_mode(OWNERS_MODE), text)
+}
+
+/// Leaves an empty file beside this one, its owner's alone, that can take its place.
+pub fn leave_room<R: Files>(rt: &R, alloc: Global, file: &str) -> Result<()> {
+    let room = format!(in alloc; "{file}.new")?;
+    new_file(rt, room.as_str(), OWNERS_MODE)?;
+    Ok(())
+}
+
+/// Puts a text in the place of a file's, as `put_own_file` does, by the file that was left beside it: so also on a disk
+/// that takes no more files. Where none was left, one is made.
+pub fn put_in_room<R: Files<File = File>>(
+    rt: &R,
+    alloc: Global,
+    file: &str,
+    text: &str,
+) -> Result<()> {
+    let room = format!(in alloc; "{file}.new")?;
+    let mut new = DiskFile::open_beside(rt, room.as_str(), OWNERS_MODE)?;
+    new.cut(0)?;
+    new.append(text.as_bytes())?;
+    new.sync()?;
+    fs::rename(rt, room.as_str(), file)?;
+    File::open(rt, folder_of(file))?.sync_all()?;
+    Ok(())
 }
 
 /// Takes a file away, if it is there; of a symbolic link the link. Where it answers, that is on the disk. It fails

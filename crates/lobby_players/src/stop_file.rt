@@ -4,7 +4,7 @@ ghost use Rattle.std.specs.Prelude.{◌≡◌, IfOk, OnOk, OnErr};
 ghost use Rattle.std.specs.String.{string_bytes};
 ghost use Rattle.lobby_players.specs.Stopping as spec;
 
-use crate::file::{put_own_file, read_file, take_away};
+use crate::file::{leave_room, put_in_room, read_file, take_away};
 use anyhow::{Context, Result};
 use lobby_words::are_message_bytes;
 use std::alloc::AllocError;
@@ -61,17 +61,17 @@ pub struct StopFile<'a, R> {
 
 impl<'a, R: Files<File = File> + AllocGlobal + Eprint> StopFile<'a, R> {
     /// Why all clocks are stopped, as it is kept in this file; where they are stopped that is told. It fails where the
-    /// system does not tell, where something else than a file has its name, or where none can be written beside it.
+    /// system does not tell, where something else than a file has its name, or where they run and no file can be left
+    /// beside it by which they are stopped.
     pub fn new(rt: &'a R, file: &'a str) -> Result<Self>
         ensures { IfOk result (λ kept. spec.MayStand (string_bytes kept.reason)) }
     {
         let bytes = read_file(rt, file)?;
-        let tried = format!(in rt.alloc(); "{file}.try")?;
-        put_own_file(rt, rt.alloc(), tried.as_str(), "").context(format_args!(
-            "writing beside {file}, by which clocks are stopped"
-        ))?;
-        take_away(rt, tried.as_str())?;
         let is_there = fs::exists(rt, file)?;
+        let left = leave_room(rt, rt.alloc(), file);
+        if !is_there {
+            left.context(format_args!("writing beside {file}, by which clocks are stopped"))?;
+        }
         let reason = reason_of(is_there, bytes.as_slice());
         if is_there {
             let _ = eprintln!(rt;
@@ -141,15 +141,18 @@ impl<'a, R: Files<File = File> + AllocGlobal + Eprint> StopFile<'a, R> {
 
     // Keeps in the file why all clocks are stopped.
     fn put(&self, reason: &str) -> Result<()> {
+        let (rt, alloc) = (self.rt, self.rt.alloc());
         if reason.is_empty() {
-            Ok(take_away(self.rt, self.file)?)
-        } else {
-            let text = format!(in self.rt.alloc(); "{reason}\n")?;
-            put_own_file(self.rt, self.rt.alloc(), self.file, text.as_str())
+            take_away(rt, self.file)?;
+            let _ = leave_room(rt, alloc, self.file);
+            return Ok(());
         }
+        let text = format!(in alloc; "{reason}\n")?;
+        put_in_room(rt, alloc, self.file, text.as_str())
     }
 
-    /// Keeps why all clocks are stopped, where that is news. Where it answers, it is on the disk.
+    /// Keeps why all clocks are stopped, where that is news. Where it answers, it is on the disk; or they were stopped
+    /// already, and another reason could not be written, which is told: the one before is there, and a look finds it.
     pub fn keep(&mut self, reason: &str) -> Result<()>
         ensures kept { OnOk result (string_bytes self.new.reason ≡ reason.now) }
         ensures same { OnErr result (string_bytes self.new.reason ≡ string_bytes self.old.reason) }
@@ -157,7 +160,13 @@ impl<'a, R: Files<File = File> + AllocGlobal + Eprint> StopFile<'a, R> {
         if reason == self.reason.as_str() {
             return Ok(());
         }
-        self.put(reason)?;
+        if let Err(error) = self.put(reason) {
+            if reason.is_empty() || self.reason.is_empty() {
+                return Err(error);
+            }
+            let file = self.file;
+            let _ = eprintln!(self.rt; "{file} has another reason still: {error:#}");
+        }
         self.reason = String::from_str(self.rt.alloc(), reason)?;
         Ok(())
     }
