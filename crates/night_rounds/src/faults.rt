@@ -7,7 +7,7 @@ use std::fmt;
 use thiserror::Error;
 
 /// What is wrong with a row.
-#[derive(Clone, Copy, Debug, PartialEq, Eq)]
+#[derive(Clone, Copy, Debug)]
 pub enum RowFault {
     BadShape,
     BadBoard,
@@ -47,7 +47,7 @@ impl fmt::Display for RowFault {
 impl std::error::Error for RowFault {}
 
 /// Why a text is no file of pairings.
-#[derive(Clone, Copy, Debug, PartialEq, Eq, Error)]
+#[derive(Clone, Copy, Debug, Error)]
 pub enum Fault {
     #[error("the first row is not board,white,black,times,start with commas between")]
     NoHeader,
