@@ -33,6 +33,45 @@ WebSocket.prototype.send = function (line) {
   return window.spied.call(this, line); };'''
 
 
+# Of an element, the place of a part of its text: why nobody sees it there, '' where it is seen, as far as one scrolls. What
+# the head's line tells at a board is seen where that is pressed.
+UNSEEN = '''const [css, part] = arguments, e = document.querySelector(css);
+  if (!e) return 'is not there';
+  const nodes = [], walk = document.createTreeWalker(e, NodeFilter.SHOW_TEXT);
+  while (walk.nextNode()) nodes.push(walk.currentNode);
+  const place = (at, isEnd) => { for (const node of nodes) { const { length } = node.data;
+    if (at < length || isEnd && at === length) return [node, at]; at -= length; } };
+  const start = nodes.map((node) => node.data).join('').indexOf(part), range = document.createRange();
+  if (start < 0) return 'does not stand there';
+  range.setStart(...place(start, false));
+  range.setEnd(...place(start + part.length, true));
+  const at = range.startContainer.parentElement, scrolled = [];
+  for (let one = at; one; one = one.parentElement) scrolled.push([one, one.scrollTop, one.scrollLeft]);
+  const news = e.closest('#news'), telling = document.querySelector('#telling');
+  const isTold = news && telling.checkVisibility() && !news.classList.contains('open');
+  if (isTold) news.classList.add('open');
+  const seen = () => {
+    if (!at.checkVisibility({ opacityProperty: true, visibilityProperty: true })) return 'is not displayed';
+    at.scrollIntoView({ block: 'nearest', inline: 'nearest' });
+    const boxes = [...range.getClientRects()].filter(({ width, height }) => width > 1 && height > 1);
+    if (!boxes.length) return 'has no place';
+    const modal = document.querySelector('dialog:modal');
+    for (const { left, right, top, bottom } of boxes) {
+      const y = (top + bottom) / 2, middle = (left + right) / 2;
+      if (y < 0 || y >= innerHeight) continue;
+      for (const x of right - left > 8 ? [left + 2, middle, right - 2] : [middle]) {
+        const hit = document.elementFromPoint(x, y);
+        if (x < 0 || x >= innerWidth) return 'is beyond the side';
+        if (modal && !modal.contains(at)) continue;
+        if (!hit || !e.contains(hit)) return `is covered by ${hit ? hit.outerHTML.slice(0, 60) : 'nothing'}`;
+      } }
+    return ''; };
+  const found = seen();
+  if (isTold) news.classList.remove('open');
+  for (const [one, top, left] of scrolled) Object.assign(one, { scrollTop: top, scrollLeft: left });
+  return found;'''
+
+
 class Together:
     """Several persons, of whom each does or sees the same, one after the other."""
 
@@ -169,16 +208,20 @@ class Person:
     def on_move(self):
         return self.until(lambda: self.lit('.movable'), 'is on move')
 
-    def hears(self, part, what):
-        return self.until(lambda: part in self.said(), what)
+    def hears(self, part, what, css='#says'):
+        return self.until(lambda: part in self.text(css), what)
+
+    def unseen(self, css, part):
+        return self.run(UNSEEN, css, part)
 
     def reads(self, css, *parts, patience=PATIENCE):
-        """Each of these parts of a text stands there."""
+        """Each of these parts of a text stands there, in sight."""
         for part in parts:
             try:
-                self.until(lambda: part in self.text(css), '%s reads %r' % (css, part), patience)
+                self.until(lambda: part in self.text(css) and not self.unseen(css, part), '%s reads %r' % (css, part),
+                           patience)
             except Wrong as wrong:
-                raise Wrong('%s; it reads %r' % (wrong, self.text(css))) from None
+                raise Wrong('%s; it reads %r, which %s' % (wrong, self.text(css), self.unseen(css, part))) from None
         return self
 
     def focused(self, what):
