@@ -784,9 +784,9 @@ export class GameView {
     if (this.root.hidden) return;
     const standing = this.standing, focused = this.root.contains(document.activeElement) && document.activeElement;
     this.root.classList.toggle('empty', !standing || this.gone);
-    byId('no-game').hidden = !this.gone;
+    byId('no-game').hidden = !this.gone && (Boolean(standing) || !this.wasAway);
     setText(byId('no-game-words'), this.isSought ? LOOKING : this.wasTaken ? TAKEN_OFF
-      : this.app.me() ? refusalWords({ number: NO_GAME })
+      : this.wasAway ? byId('note').textContent : this.app.me() ? refusalWords({ number: NO_GAME })
         : t`Game ${this.number} is not being played. It is shown here as soon as it begins.`);
     document.body.classList.toggle('plays', !this.gone && this.isPlaying());
     document.body.classList.toggle('at-board', !this.gone && this.started() && this.seat() !== '');
