@@ -163,7 +163,7 @@ export function drawOutcome(game) {
     if (!game.seat() && !game.app.me()) more = t`To play, open your personal link.`;
   } else if (SIDES.some((side) => standing.side === side && game.clockOf(side).now() <= 0)) {
     head = t`${colourWord(standing.side)}’s flag has fallen`;
-    more = game.seat() ? t`Calling it …` : t`A player has to call it.`;
+    more = !game.seat() ? t`A player has to call it.` : game.app.reachable() ? t`Calling it …` : '';
   } else if (game.back !== null) {
     head = t`An earlier position`;
     more = t`The game goes on: go to the last move to play.`;

@@ -33,40 +33,41 @@ WebSocket.prototype.send = function (line) {
   return window.spied.call(this, line); };'''
 
 
-# Of an element, the place of a part of its text: why nobody sees it there, '' where it is seen, as far as one scrolls. What
-# the head's line tells at a board is seen where that is pressed.
+# Of an element and a part of its text: why nobody sees it there, '' where it is seen, as far as one scrolls. What the
+# head's line tells at a board is seen where that is pressed.
 UNSEEN = '''const [css, part] = arguments, e = document.querySelector(css);
   if (!e) return 'is not there';
   const nodes = [], walk = document.createTreeWalker(e, NodeFilter.SHOW_TEXT);
   while (walk.nextNode()) nodes.push(walk.currentNode);
+  const text = nodes.map((node) => node.data).join(''), modal = document.querySelector('dialog:modal');
   const place = (at, isEnd) => { for (const node of nodes) { const { length } = node.data;
     if (at < length || isEnd && at === length) return [node, at]; at -= length; } };
-  const start = nodes.map((node) => node.data).join('').indexOf(part), range = document.createRange();
-  if (start < 0) return 'does not stand there';
-  range.setStart(...place(start, false));
-  range.setEnd(...place(start + part.length, true));
-  const at = range.startContainer.parentElement, scrolled = [];
-  for (let one = at; one; one = one.parentElement) scrolled.push([one, one.scrollTop, one.scrollLeft]);
-  const news = e.closest('#news'), telling = document.querySelector('#telling');
-  const isTold = news && telling.checkVisibility() && !news.classList.contains('open');
-  if (isTold) news.classList.add('open');
-  const seen = () => {
+  const covered = (at, x, y) => {
+    if (x < 0 || x >= innerWidth) return 'is beyond the side';
+    if (modal && !modal.contains(at)) return '';
+    const hit = document.elementFromPoint(x, y);
+    return hit && e.contains(hit) ? '' : `is covered by ${hit ? hit.outerHTML.slice(0, 60) : 'nothing'}`; };
+  const unseen = (start) => {
+    const range = document.createRange();
+    range.setStart(...place(start, false));
+    range.setEnd(...place(start + part.length, true));
+    const at = range.startContainer.parentElement;
     if (!at.checkVisibility({ opacityProperty: true, visibilityProperty: true })) return 'is not displayed';
     at.scrollIntoView({ block: 'nearest', inline: 'nearest' });
     const boxes = [...range.getClientRects()].filter(({ width, height }) => width > 1 && height > 1);
     if (!boxes.length) return 'has no place';
-    const modal = document.querySelector('dialog:modal');
-    for (const { left, right, top, bottom } of boxes) {
-      const y = (top + bottom) / 2, middle = (left + right) / 2;
-      if (y < 0 || y >= innerHeight) continue;
-      for (const x of right - left > 8 ? [left + 2, middle, right - 2] : [middle]) {
-        const hit = document.elementFromPoint(x, y);
-        if (x < 0 || x >= innerWidth) return 'is beyond the side';
-        if (modal && !modal.contains(at)) continue;
-        if (!hit || !e.contains(hit)) return `is covered by ${hit ? hit.outerHTML.slice(0, 60) : 'nothing'}`;
-      } }
-    return ''; };
-  const found = seen();
+    return boxes.filter(({ top, bottom }) => top + bottom >= 0 && top + bottom < 2 * innerHeight)
+      .flatMap(({ left, right, top, bottom }) => (right - left > 8 ? [left + 2, (left + right) / 2, right - 2]
+        : [(left + right) / 2]).map((x) => covered(at, x, (top + bottom) / 2))).find(Boolean) || ''; };
+  const news = e.closest('#news'), telling = document.querySelector('#telling'), scrolled = [];
+  const isTold = news && telling.checkVisibility() && !news.classList.contains('open');
+  for (const one of document.querySelectorAll('*'))
+    if (one.scrollTop || one.scrollLeft || one.contains(e) || e.contains(one))
+      scrolled.push([one, one.scrollTop, one.scrollLeft]);
+  if (isTold) news.classList.add('open');
+  let found = part ? 'does not stand there' : '';
+  for (let start = text.indexOf(part); part && start >= 0 && found; start = text.indexOf(part, start + 1))
+    found = unseen(start);
   if (isTold) news.classList.remove('open');
   for (const [one, top, left] of scrolled) Object.assign(one, { scrollTop: top, scrollLeft: left });
   return found;'''
