@@ -9,9 +9,10 @@ import { byId, read, setText, write } from './make.js';
 const HIDDEN = 'hidden-announcement';  // of this tab: what was announced as it was hidden
 const DEFAULT = 'hidden-default';      // of this browser: the board without a game that was hidden last
 const tab = () => sessionStorage, local = () => localStorage;
-/** What is told, the most urgent first: of these the first two are told in red. */
-const TOLD = ['#told', '#invited', '#challenges > *', '#decided', '#defaulted', '#announced', '#taken-back'];
-const URGENT = TOLD.slice(0, 2);
+/** What is told, the most urgent first: of these the first three are told in red. */
+const TOLD = ['#clocks-stopped', '#told', '#invited', '#challenges > *', '#decided', '#defaulted', '#announced',
+  '#taken-back', '#log-full'];
+const URGENT = TOLD.slice(0, 3);
 
 /** What the arbiter announces, as the lobby tells it; empty where that is nothing. */
 export let announced = '';

@@ -106,6 +106,7 @@ export class Broadcast {
     this.rowsOf = null;
     this.all = new Map();
     this.leaves = 0;                   // how often the table was left
+    this.leftAt = 0;                   // and when, by performance.now()
     this.forget();
     this.left = new AbortController();
     const again = () => this.retry(), { signal } = this.left;
@@ -124,6 +125,7 @@ export class Broadcast {
   leaveTable() {
     this.isAtTable = false;
     this.leaves += 1;
+    this.leftAt = performance.now();
   }
 
   /** Looks now. */
@@ -243,6 +245,7 @@ export class Broadcast {
     const numbers = this.isAtTable ? [...this.rows().keys(), ...this.known.keys()] : this.watched;
     for (const number of new Set(numbers)) {
       if (this.watched.has(number) && !this.known.has(number)) continue;        // (its answer is still to come)
+      if (!this.isAtTable && this.fileOf(number).readAt < this.leftAt) continue;      // (it stood as its row until then)
       const before = this.known.get(number) || null, now = this.now(number);
       this.known.set(number, now);
       const isForTable = !before || !now || now.article !== before.article;

@@ -108,7 +108,10 @@ export class GameView {
     });
     byId('moves').addEventListener('keydown', (event) => this.walkMoves(event));
     addEventListener('resize', () => this.render());
-    addEventListener('clocks', () => stopped || this.noteKind !== 'stopped' || this.note(''));
+    addEventListener('clocks', () => {
+      if (!stopped && this.noteKind === 'stopped') this.note('');
+      this.render();
+    });
     const agreed = (id, act) => byId(id).addEventListener('close', (event) => {
       if (event.target.returnValue === 'yes') act();
     });
@@ -418,6 +421,11 @@ export class GameView {
     return this.running() && this.seat() === this.standing.side;
   }
 
+  /** Whether it is one's turn, and what is played now is taken. */
+  mayMove() {
+    return this.myTurn() && !stopped;
+  }
+
   moveOnBoard(move) {
     this.pending = this.busy ? null : this.standing.ply;
     if (!asksFirst() || this.busy) {
@@ -440,14 +448,14 @@ export class GameView {
     this.render();
   }
 
-  /** A move for the next turn, or none any more. */
+  /** A move for the next turn or, while all clocks are stopped, for when they run; or none any more. */
   planned(plan) {
     this.plan = plan;
     say(plan ? t`Your next move: ${plan.from} to ${plan.to}.` : t`Your next move is taken back.`);
     this.render();
   }
 
-  /** It is one's turn: the move that was planned is sent where it is among those that were told. */
+  /** It is one's turn, and the clocks run: the move that was planned is sent where it is among those that were told. */
   playPlan() {
     const move = this.board.moveOf(this.plan), { from, to } = this.plan;
     this.plan = null;
@@ -474,6 +482,11 @@ export class GameView {
     }
     if (!this.myTurn()) {
       this.note(refusalWords({ number: NOT_YOUR_MOVE }));
+      field.select();
+      return;
+    }
+    if (stopped) {
+      this.note(refusalWords({ number: CLOCKS_STOPPED }), 'stopped');
       field.select();
       return;
     }
@@ -771,14 +784,14 @@ export class GameView {
     if (this.root.hidden) return;
     const standing = this.standing, focused = this.root.contains(document.activeElement) && document.activeElement;
     this.root.classList.toggle('empty', !standing || this.gone);
-    byId('no-game').hidden = !this.gone;
+    byId('no-game').hidden = !this.gone && (Boolean(standing) || !this.wasAway);
     setText(byId('no-game-words'), this.isSought ? LOOKING : this.wasTaken ? TAKEN_OFF
-      : this.app.me() ? refusalWords({ number: NO_GAME })
+      : this.wasAway ? byId('note').textContent : this.app.me() ? refusalWords({ number: NO_GAME })
         : t`Game ${this.number} is not being played. It is shown here as soon as it begins.`);
     document.body.classList.toggle('plays', !this.gone && this.isPlaying());
     document.body.classList.toggle('at-board', !this.gone && this.started() && this.seat() !== '');
     if (!standing || this.gone) return;
-    if (this.plan && this.myTurn()) this.back = null;
+    if (this.plan && this.mayMove()) this.back = null;
     drawPlayers(this);
     this.renderBoard();
     drawActions(this);
@@ -816,7 +829,7 @@ export class GameView {
     const shown = this.shown(), move = this.line[shown] || {}, now = this.back === null;
     this.board.root.classList.toggle('sending', this.isSlow);
     if (now && this.pending === this.standing.ply) return;       // the man stands where it was put, until the answer
-    const free = now && this.running() && !this.busy && this.app.reachable(), live = free && this.myTurn();
+    const free = now && this.running() && !this.busy && this.app.reachable(), live = free && this.mayMove();
     this.board.show({
       fen: this.fenShown(), last: move, check: now ? this.standing.check : /[+#]$/.test(move.san || ''),
       moves: live ? this.standing.moves : [], ahead: free && !live ? this.seat() : '', plan: now && this.plan,

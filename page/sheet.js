@@ -5,9 +5,10 @@ import { placementOf, readTimes, sideOf } from './lines.js';
 import { byId, make, setText } from './make.js';
 import { drawTaken } from './material.js';
 import { resultText, sideText } from './round.js';
+import { stopped } from './stopped.js';
 import {
-  SIDES, colourWord, decidedWords, kindWord, rankWords, resultWords, sanShown, sanWords, timesInFull, timesWords,
-  withReason,
+  CLOCKS_STOPPED, SIDES, colourWord, decidedWords, kindWord, rankWords, refusalWords, resultWords, sanShown, sanWords,
+  timesInFull, timesWords, withReason,
 } from './words.js';
 
 /** What the button says by itself. */
@@ -162,7 +163,7 @@ export function drawOutcome(game) {
     if (!game.seat() && !game.app.me()) more = t`To play, open your personal link.`;
   } else if (SIDES.some((side) => standing.side === side && game.clockOf(side).now() <= 0)) {
     head = t`${colourWord(standing.side)}’s flag has fallen`;
-    more = game.seat() ? t`Calling it …` : t`A player has to call it.`;
+    more = !game.seat() ? t`A player has to call it.` : game.app.reachable() ? t`Calling it …` : '';
   } else if (game.back !== null) {
     head = t`An earlier position`;
     more = t`The game goes on: go to the last move to play.`;
@@ -171,14 +172,21 @@ export function drawOutcome(game) {
     more = t`The lobby has not answered yet.`;
   } else if (game.seat()) {
     head = game.myTurn() ? t`Your turn` : t`Waiting for your opponent`;
-    more = standing.check ? t`Check!` : '';
-    if (game.plan) more = t`Then ${game.plan.from}–${game.plan.to}: a click takes it back.`;
+    more = stopped ? refusalWords({ number: CLOCKS_STOPPED }) : standing.check ? t`Check!` : '';
+    if (game.plan) more = planWords(game);
   } else {
     head = t`${colourWord(standing.side)} to move`;
     more = standing.check ? t`Check!` : '';
   }
   setText(place.querySelector('.head'), head);
   setText(place.querySelector('.more'), more);
+}
+
+/** When the move is sent that was made before its time. */
+function planWords(game) {
+  const { from, to } = game.plan;
+  return stopped && game.myTurn() ? t`Once the clocks run ${from}–${to}: a click takes it back.`
+    : t`Then ${from}–${to}: a click takes it back.`;
 }
 
 /** Who sits there, and the way to the player's games, but for who plays: no click there leaves the board. */

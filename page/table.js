@@ -254,7 +254,8 @@ export class TableView {
         row.own ? make('span', { class: 'own-start' }, t`from a position`) : ''),
       make('span', { class: 'state' }, this.stateWords(row)));
     const item = make('li', { class: this.mayMove(row) ? 'game-row yours' : 'game-row' }, link);
-    if (kind === 'open' && this.app.me() && !row.isAway) {
+    if (kind === 'open' && row.isAway) item.append(make('span', { class: 'away' }, t`not connected`));
+    else if (kind === 'open' && this.app.me()) {
       item.append(make('button', { type: 'button', class: 'strong', 'data-key': `join-${row.number}`,
         'aria-label': t`Join game ${row.number}`, disabled: !this.app.reachable(),
         onclick: () => this.join(row.number) }, t`Join`));
@@ -264,7 +265,7 @@ export class TableView {
 
   stateWords(row) {
     if (row.result !== '*') return resultText(this.counted(row));
-    if (!row.white || !row.black) return row.isAway ? t`not connected` : '';
+    if (!row.white || !row.black) return '';
     if (this.mayMove(row)) return t`your turn`;
     const me = this.app.me();
     if (row.white !== me && row.black !== me) return t`watch`;

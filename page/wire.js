@@ -3,7 +3,7 @@
 
 import { announcedIn, isFullIn, linesOf, stoppedIn } from './lines.js';
 
-const PAUSES = [400, 1000, 2000, 4000, 8000, 15000];
+const PAUSES = [400, 1000, 2000, 3600];      // (a quarter more or less: who waits is back within five seconds)
 const MOST_A_SECOND = 15;            // the lobby takes 20
 const MOST_QUIETLY = 6;              // of these for what nobody waits for
 const MOST_WAITING = 24;             // the lobby takes the next once it has answered one

@@ -320,6 +320,7 @@ export const WORDS = {
   'Waiting for your opponent': 'Dein Gegner ist am Zug',
   'Check!': 'Schach!',
   'Then {0}–{1}: a click takes it back.': 'Dann {0}–{1}: ein Klick nimmt es zurück.',
+  'Once the clocks run {0}–{1}: a click takes it back.': 'Sobald die Uhren laufen {0}–{1}: ein Klick nimmt es zurück.',
   'free seat': 'freier Platz',
   'From a position': 'Ab einer Stellung',
   '+{0}{1} in 1 move': '+{0}{1} in 1 Zug',

@@ -316,6 +316,7 @@ export const WORDS = {
   'Waiting for your opponent': 'Le toca al rival',
   'Check!': '¡Jaque!',
   'Then {0}–{1}: a click takes it back.': 'Después {0}–{1}: un clic la anula.',
+  'Once the clocks run {0}–{1}: a click takes it back.': 'En cuanto corran los relojes {0}–{1}: un clic la anula.',
   'free seat': 'puesto libre',
   'From a position': 'Desde una posición',
   '+{0}{1} in 1 move': '+{0}{1} en 1 jugada',

@@ -322,6 +322,7 @@ export const WORDS = {
   'Waiting for your opponent': 'À l’adversaire de jouer',
   'Check!': 'Échec !',
   'Then {0}–{1}: a click takes it back.': 'Puis {0}–{1} : un clic le retire.',
+  'Once the clocks run {0}–{1}: a click takes it back.': 'Dès que les pendules tournent {0}–{1} : un clic le retire.',
   'free seat': 'place libre',
   'From a position': 'À partir d’une position',
   '+{0}{1} in 1 move': '+{0}{1} dans 1 coup',

@@ -319,6 +319,7 @@ export const WORDS = {
   'Waiting for your opponent': 'Tocca all’avversario',
   'Check!': 'Scacco!',
   'Then {0}–{1}: a click takes it back.': 'Poi {0}–{1}: un clic la annulla.',
+  'Once the clocks run {0}–{1}: a click takes it back.': 'Appena ripartono gli orologi {0}–{1}: un clic la annulla.',
   'free seat': 'posto libero',
   'From a position': 'Da una posizione',
   '+{0}{1} in 1 move': '+{0}{1} tra 1 mossa',

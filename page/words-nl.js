@@ -318,6 +318,7 @@ export const WORDS = {
   'Waiting for your opponent': 'Je tegenstander is aan zet',
   'Check!': 'Schaak!',
   'Then {0}–{1}: a click takes it back.': 'Dan {0}–{1}: een klik neemt het terug.',
+  'Once the clocks run {0}–{1}: a click takes it back.': 'Zodra de klokken lopen {0}–{1}: een klik neemt het terug.',
   'free seat': 'vrije plaats',
   'From a position': 'Vanuit een stelling',
   '+{0}{1} in 1 move': '+{0}{1} over 1 zet',

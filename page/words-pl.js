@@ -317,6 +317,7 @@ export const WORDS = {
   'Waiting for your opponent': 'Kolej przeciwnika',
   'Check!': 'Szach!',
   'Then {0}–{1}: a click takes it back.': 'Potem {0}–{1}: kliknięcie to cofa.',
+  'Once the clocks run {0}–{1}: a click takes it back.': 'Gdy zegary ruszą {0}–{1}: kliknięcie to cofa.',
   'free seat': 'wolne miejsce',
   'From a position': 'Od pozycji',
   '+{0}{1} in 1 move': '+{0}{1} za 1 posunięcie',

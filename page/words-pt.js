@@ -314,6 +314,7 @@ export const WORDS = {
   'Waiting for your opponent': 'Vez do adversário',
   'Check!': 'Xeque!',
   'Then {0}–{1}: a click takes it back.': 'Depois {0}–{1}: um clique cancela.',
+  'Once the clocks run {0}–{1}: a click takes it back.': 'Assim que os relógios andarem {0}–{1}: um clique cancela.',
   'free seat': 'lugar livre',
   'From a position': 'A partir de uma posição',
   '+{0}{1} in 1 move': '+{0}{1} em 1 lance',

@@ -479,7 +479,7 @@ def read_by_all(hall):
                               (sue, 'arbiter', '#arbiter-only'), (sue, 'game/9999', '#no-game'),
                               (sue, 'round', '#round-none'),
                               (ann, 'game/' + number, '#drop')):
-        person.goes(view)
+        person.goes(view).run('for (const one of document.querySelectorAll("main details")) one.open = true')
         well(person, view or 'the table', css)
     bob.click('[data-key="join-%s"]' % number)
     hall.both.finds('#resign', 'the game has begun')
@@ -504,8 +504,10 @@ def read_by_all(hall):
     bob.asked('#offer')
     well(ann, 'an offer', '#offered')
     hall.play(['b8c6'], 3)
-    for button, part in (('#resign', '#resign-dialog'), ('#claim', '#claim-dialog'), ('#help', '#help-dialog'),
-                         ('#settings summary', '#settings .menu'), ('#who summary', '#who .menu')):
+    ann.click('#decline')
+    for button, part in (('#offer', '#offer-dialog'), ('#resign', '#resign-dialog'), ('#claim', '#claim-dialog'),
+                         ('#help', '#help-dialog'), ('#settings summary', '#settings .menu'),
+                         ('#who summary', '#who .menu')):
         ann.click(button)
         well(ann, part, part)
         ann.keys(Keys.ESCAPE)

@@ -37,7 +37,7 @@ class Shown:
     def __init__(self):
         self.games, self.files, self.asked = {}, {}, []
         self.said = {'stopped': '', 'announced': ''}
-        self.is_away, self.ahead, self.later = False, 0, 0
+        self.is_away, self.ahead, self.later, self.slow = False, 0, 0, 0
         shown = self
 
         class Answers(http.server.BaseHTTPRequestHandler):
@@ -71,6 +71,8 @@ class Shown:
         if self.is_away:
             request.close_connection = True
             return
+        if path == '/games.json':
+            time.sleep(self.slow)
         request.send_response(status)
         request.send_header('Content-Type', TYPES.get(path.rsplit('.', 1)[-1], 'text/html' if '.' not in path
                                                       else 'application/json'))
@@ -225,6 +227,12 @@ def a_game_by_files(sue, shown):
     is_quiet(sue)
 
 
+# From now on each text in the place of a game is noted.
+GONE = """window.gone = []; new MutationObserver(() => { const place = document.querySelector('#no-game');
+  if (place.checkVisibility()) gone.push(place.textContent); }).observe(document.body, { attributes: true, subtree: true,
+  childList: true });"""
+
+
 @watching
 def the_hall_by_files(sue, shown):
     """The table and the hall read one file for all games, every two seconds; games that begin, end and go are told."""
@@ -244,12 +252,24 @@ def the_hall_by_files(sue, shown):
     sue.is_so('WIM 2103' in sue.run(ranks % '#hall-boards'), 'with titles and ratings')
     sue.until(lambda: sorted(sue.run('return [...document.querySelectorAll(".card-last")].map((e) => e.textContent)'))
               == ['', 'e5'], 'with their last moves')
-    for width, height in ((1280, 800), (1024, 768)):
-        sue.screen(width, height)
-        sue.until(lambda: sue.box('.hall-tools')['bottom'] <= height, 'what is below the boards is in sight')
+    for said in ((), ('a lamp fell', 'The next round begins at 20:00')):
+        shown.says(*said)
+        sue.until(lambda: sue.sees('#announced') == bool(said), 'what is told above')
+        for width, height in ((1280, 800), (1024, 768)):
+            sue.screen(width, height)
+            sue.until(lambda: sue.box('.hall-tools')['bottom'] <= height, 'what is below the boards is in sight')
+    shown.says()
     sue.screen(1280, 800)
     shown.has(7, 3)
     sue.until(lambda: 'Bc4' in sue.text('#hall-boards'), 'a move in the hall')
+    sue.run(GONE)
+    shown.slow, asked = 1, len(shown.of('/games.json'))
+    sue.until(lambda: len(shown.of('/games.json')) > asked, 'the table is asked for').goes('game/7')
+    sue.moved(SANS[:3], 'who goes to a game meanwhile sees it')
+    time.sleep(2.5)
+    sue.is_so(sue.run('return gone') == [], 'and no word that it is gone: %s' % sue.run('return gone'))
+    shown.slow = 0
+    sue.goes('hall').finds('.card', 'the hall')
     shown.has(7, 3, result='0-1', article='5.1.2')
     sue.until(lambda: '0–1 by resignation' in sue.text('#hall-boards'), 'an end in the hall')
     begun = time.monotonic()

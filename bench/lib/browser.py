@@ -33,6 +33,46 @@ WebSocket.prototype.send = function (line) {
   return window.spied.call(this, line); };'''
 
 
+# Of an element and a part of its text: why nobody sees it there, '' where it is seen, as far as one scrolls. What the
+# head's line tells at a board is seen where that is pressed.
+UNSEEN = '''const [css, part] = arguments, e = document.querySelector(css);
+  if (!e) return 'is not there';
+  const nodes = [], walk = document.createTreeWalker(e, NodeFilter.SHOW_TEXT);
+  while (walk.nextNode()) nodes.push(walk.currentNode);
+  const text = nodes.map((node) => node.data).join(''), modal = document.querySelector('dialog:modal');
+  const place = (at, isEnd) => { for (const node of nodes) { const { length } = node.data;
+    if (at < length || isEnd && at === length) return [node, at]; at -= length; } };
+  const covered = (at, x, y) => {
+    if (x < 0 || x >= innerWidth) return 'is beyond the side';
+    if (modal && !modal.contains(at)) return '';
+    const hit = document.elementFromPoint(x, y);
+    return hit && e.contains(hit) ? '' : `is covered by ${hit ? hit.outerHTML.slice(0, 60) : 'nothing'}`; };
+  const unseen = (start) => {
+    const range = document.createRange();
+    range.setStart(...place(start, false));
+    range.setEnd(...place(start + part.length, true));
+    const at = range.startContainer.parentElement;
+    if (!at.checkVisibility({ opacityProperty: true, visibilityProperty: true })) return 'is not displayed';
+    at.scrollIntoView({ block: 'nearest', inline: 'nearest' });
+    const boxes = [...range.getClientRects()].filter(({ width, height }) => width > 1 && height > 1);
+    if (!boxes.length) return 'has no place';
+    return boxes.filter(({ top, bottom }) => top + bottom >= 0 && top + bottom < 2 * innerHeight)
+      .flatMap(({ left, right, top, bottom }) => (right - left > 8 ? [left + 2, (left + right) / 2, right - 2]
+        : [(left + right) / 2]).map((x) => covered(at, x, (top + bottom) / 2))).find(Boolean) || ''; };
+  const news = e.closest('#news'), telling = document.querySelector('#telling'), scrolled = [];
+  const isTold = news && telling.checkVisibility() && !news.classList.contains('open');
+  for (const one of document.querySelectorAll('*'))
+    if (one.scrollTop || one.scrollLeft || one.contains(e) || e.contains(one))
+      scrolled.push([one, one.scrollTop, one.scrollLeft]);
+  if (isTold) news.classList.add('open');
+  let found = part ? 'does not stand there' : '';
+  for (let start = text.indexOf(part); part && start >= 0 && found; start = text.indexOf(part, start + 1))
+    found = unseen(start);
+  if (isTold) news.classList.remove('open');
+  for (const [one, top, left] of scrolled) Object.assign(one, { scrollTop: top, scrollLeft: left });
+  return found;'''
+
+
 class Together:
     """Several persons, of whom each does or sees the same, one after the other."""
 
@@ -169,16 +209,20 @@ class Person:
     def on_move(self):
         return self.until(lambda: self.lit('.movable'), 'is on move')
 
-    def hears(self, part, what):
-        return self.until(lambda: part in self.said(), what)
+    def hears(self, part, what, css='#says'):
+        return self.until(lambda: part in self.text(css), what)
+
+    def unseen(self, css, part):
+        return self.run(UNSEEN, css, part)
 
     def reads(self, css, *parts, patience=PATIENCE):
-        """Each of these parts of a text stands there."""
+        """Each of these parts of a text stands there, in sight."""
         for part in parts:
             try:
-                self.until(lambda: part in self.text(css), '%s reads %r' % (css, part), patience)
+                self.until(lambda: part in self.text(css) and not self.unseen(css, part), '%s reads %r' % (css, part),
+                           patience)
             except Wrong as wrong:
-                raise Wrong('%s; it reads %r' % (wrong, self.text(css))) from None
+                raise Wrong('%s; it reads %r, which %s' % (wrong, self.text(css), self.unseen(css, part))) from None
         return self
 
     def focused(self, what):

@@ -16,7 +16,7 @@ FORFEITS = ("+/-", "-/+", "-/-", "=/=")
 
 class Tournament:
     """Rounds of boards `(white, black, result)`, players by numbers from 0 on; of a bye `(player, None, sign)`. Where
-    each meets each forfeits are games (15), and section 16 does not hold: who is free has no part in a round."""
+    each meets each forfeits are games (15), section 16 does not hold, and a round adds nothing where nobody was met."""
 
     def __init__(self, count, rounds, each=False):
         self.players, self.each = range(count), each
@@ -72,7 +72,8 @@ class Tournament:
         return sum(part * points for part, points, _ in self.parts(player))
 
     def wins(self, player):
-        return sum(points == 1 for _, points, _ in self.parts(player))
+        """7.1: with or without playing, by what each round was worth."""
+        return sum(told[player][1] == 1 for told in self.rounds)
 
     def board_points(self, _player):
         return 0

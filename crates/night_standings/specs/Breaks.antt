@@ -126,18 +126,19 @@ value_of criteria.SonnebornBerger scores cells = sonneborn_berger scores cells
 value_of criteria.Wins scores cells = wins cells
 
 -- The rounds of a player that have a part in that: in a round robin those with an opponent, so that no round there is
--- unplayed, and none is left out by will (16.4, 16.5).
-abbrev pub has_part : System → Cell → Bool
-has_part s c = is_swiss s || not (c.opponent == 0)
+-- unplayed, and none is left out by will (16.4, 16.5); but wins count each, with or without a game (7.1).
+abbrev pub has_part : System → Criterion → Cell → Bool
+has_part s criteria.Wins c = true
+has_part s _ c = is_swiss s || not (c.opponent == 0)
 
-abbrev pub with_part : System → List Cell → List Cell
-with_part s cells = filter (has_part s) cells
+abbrev pub with_part : System → Criterion → List Cell → List Cell
+with_part s k cells = filter (has_part s k) cells
 
 -- what each of so many players has
 abbrev pub all_values : System → Criterion → List ℕ → List (List Meeting) → ℕ → List ℕ
 all_values s k scores rounds zero = []
 all_values s k scores rounds (suc count) =
-    all_values s k scores rounds count ++ (value_of k scores (with_part s (rounds_of (suc count) rounds)) ∷ [])
+    all_values s k scores rounds count ++ (value_of k scores (with_part s k (rounds_of (suc count) rounds)) ∷ [])
 
 abbrev pub all_points : List (List Meeting) → ℕ → List ℕ
 all_points rounds zero = []

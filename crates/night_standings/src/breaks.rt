@@ -11,7 +11,7 @@ use std::alloc::{AllocError, Global};
 #[derive(Clone, Copy)]
 pub enum System {
     Swiss,
-    /// Each meets each: forfeits are games, and who is free in a round has no part in it.
+    /// Each meets each: forfeits are games, and a round without an opponent is none, but for wins.
     RoundRobin,
 }
 
@@ -326,20 +326,24 @@ fn value_of(criterion: Criterion, scores: &[u32], cells: &[Cell]) -> u64
     }
 }
 
-fn has_part(system: System, cell: Cell) -> bool
-    ensures { result ≡ spec.has_part system cell }
+// Whether a round has a part in a tie-break.
+fn has_part(by: Break, cell: Cell) -> bool
+    ensures { result ≡ spec.has_part by.system by.criterion cell }
 {
-    is_swiss(system) || cell.opponent != 0
+    match by.criterion {
+        Criterion::Wins => true,
+        _ => is_swiss(by.system) || cell.opponent != 0,
+    }
 }
 
-// The rounds of a player that have a part in tie-breaks.
-fn with_part(alloc: Global, system: System, cells: &[Cell]) -> Result<Vec<Cell>, AllocError>
-    ensures cells { IfOk result (λ kept. kept.items ≡ spec.with_part system cells.now) }
+// The rounds of a player that have a part in a tie-break.
+fn with_part(alloc: Global, by: Break, cells: &[Cell]) -> Result<Vec<Cell>, AllocError>
+    ensures cells { IfOk result (λ kept. kept.items ≡ spec.with_part by.system by.criterion cells.now) }
     ensures few { IfOk result (λ kept. length kept.items ≤ length cells.now) }
 {
     let mut kept = Vec::new(alloc);
     for cell in cells {
-        if has_part(system, *cell) {
+        if has_part(by, *cell) {
             kept.push(*cell)?;
         }
     }
@@ -361,7 +365,7 @@ pub fn all_values(
     let mut all = Vec::new(alloc);
     for at in 0..count {
         let cells = rounds_of(alloc, at + 1, rounds)?;
-        let kept = with_part(alloc, by.system, cells.as_slice())?;
+        let kept = with_part(alloc, by, cells.as_slice())?;
         all.push(value_of(by.criterion, scores, kept.as_slice()))?;
     }
     Ok(all)
