@@ -71,8 +71,8 @@ class Shown:
         if self.is_away:
             request.close_connection = True
             return
-        if path == '/games.json':
-            time.sleep(self.slow)
+        if path.startswith('/games'):
+            time.sleep(self.slow if path == '/games.json' else 3 * self.slow)
         request.send_response(status)
         request.send_header('Content-Type', TYPES.get(path.rsplit('.', 1)[-1], 'text/html' if '.' not in path
                                                       else 'application/json'))
