@@ -1,5 +1,5 @@
 -- The letters that are read in front are those of the text that is in the frame there.
-use Rattle.std.proofs.Common.{ℕ, suc, ◌≡◌, ◌≤◌, ◌<◌, ◌+◌, ◌&&◌, eqb, Bool, true, false, List, [], ◌∷◌, ◌++◌, codes, length, take, refl, ap, sym, ◌∙◌, arith, bit_xor, inl, inr}
+use Rattle.std.proofs.Common.{ℕ, zero, suc, ◌≡◌, ◌≤◌, ◌<◌, ◌+◌, ◌&&◌, eqb, Bool, true, false, List, [], ◌∷◌, ◌++◌, codes, length, take, refl, ap, sym, ◌∙◌, arith, bit_xor, inl, inr}
 use Rattle.std.specs.Prelude.{nat_le}
 use Rattle.std.proofs.lemmas.Bool.{cases_Bool, eqb-false, le-leb, lt-leb, lt-ltb}
 use Rattle.std.proofs.lemmas.Bool.Decides.{Decides-eqb}
@@ -169,8 +169,8 @@ frame_alone k0 k1 k2 k3 text few = rw (lt-ltb (length text) 126 (omega arith))
 
 cut_laid : (n k0 k1 k2 k3 : ℕ) (behind : List ℕ) (count : ℕ) → count < 6 + n →
     is_whole (take count (laid n k0 k1 k2 k3 behind)) ≡ false
-cut_laid n k0 k1 k2 k3 behind 0 less = refl
-cut_laid n k0 k1 k2 k3 behind (suc 0) less = refl
+cut_laid n k0 k1 k2 k3 behind zero less = refl
+cut_laid n k0 k1 k2 k3 behind (suc zero) less = refl
 cut_laid n k0 k1 k2 k3 behind (suc (suc more)) less =
     let rest : List ℕ = k0 ∷ k1 ∷ k2 ∷ k3 ∷ behind in
     rw (
