@@ -1,7 +1,8 @@
 -- The letters that are read in front are those of the text that is in the frame there.
 use Rattle.std.proofs.Common.{ℕ, zero, suc, ◌≡◌, ◌≤◌, ◌<◌, ◌+◌, ◌&&◌, eqb, Bool, true, false, List, [], ◌∷◌, ◌++◌, codes, length, take, refl, ap, sym, ◌∙◌, arith, bit_xor, inl, inr}
 use Rattle.std.specs.Prelude.{nat_le}
-use Rattle.std.proofs.lemmas.Bool.{cases_Bool, eqb-false, le-leb, lt-leb, lt-ltb}
+use Rattle.std.proofs.Math.Nat.{min-le_left}
+use Rattle.std.proofs.lemmas.Bool.{cases_Bool, and_right, eqb-false, le-leb, lt-leb, lt-ltb}
 use Rattle.std.proofs.lemmas.Bool.Decides.{Decides-eqb}
 use Rattle.std.proofs.lemmas.List.{length-append, length-take}
 use lib.Bits.{xor_assoc, xor_self, xor_zero_r}
@@ -167,17 +168,19 @@ frame_alone : (k0 k1 k2 k3 : ℕ) (text : List ℕ) → length text ≤ 125 →
 unfolding encode_header
 frame_alone k0 k1 k2 k3 text few = rw (lt-ltb (length text) 126 (omega arith))
 
+cut_short : (n more : ℕ) (bytes : List ℕ) → suc (suc more) < 6 + n →
+    length (129 ∷ (128 + n) ∷ take more bytes) + 122 < 128 + n
+cut_short n more bytes less = omega (arith, less, length-take more bytes, min-le_left more (length bytes))
+
 cut_laid : (n k0 k1 k2 k3 : ℕ) (behind : List ℕ) (count : ℕ) → count < 6 + n →
     is_whole (take count (laid n k0 k1 k2 k3 behind)) ≡ false
 cut_laid n k0 k1 k2 k3 behind zero less = refl
 cut_laid n k0 k1 k2 k3 behind (suc zero) less = refl
 cut_laid n k0 k1 k2 k3 behind (suc (suc more)) less =
     let rest : List ℕ = k0 ∷ k1 ∷ k2 ∷ k3 ∷ behind in
-    rw (
-      lt-leb (128 + n) (length (129 ∷ (128 + n) ∷ take more rest) + 122)
-          (omega (arith, less, length-take more rest)),
-      and_no (nat_le 2 (length (129 ∷ (128 + n) ∷ take more rest))),
-    )
+    let bytes : List ℕ = 129 ∷ (128 + n) ∷ take more rest in
+    and_right (nat_le 2 (length bytes)) (nat_le (128 + n) (length bytes + 122))
+    (lt-leb (128 + n) (length bytes + 122) (cut_short n more rest less))
 
 pub cut_are : (key text : List ℕ) (count : ℕ) → length key ≡ 4 → length text ≤ 125 →
     count < length (text_frame key text) → is_whole (take count (text_frame key text)) ≡ false
