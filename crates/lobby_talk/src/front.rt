@@ -148,14 +148,16 @@ pub fn may_be_act(unread: &[u8]) -> bool
 
 /// Whatever the first word of an act, of a pairing, of what is offered or of a login is: a text of five letters or more
 /// with it begins as an act does, so nothing of these but `offers` is put off as a question; and none with another
-/// message's word does. Nor does one that may ask for much begin as `has_brief` has it, and each that asks for little does. There
-/// are no other words by which a message asks for something, but `name`, which is the server's own and refused.
+/// message's word does, whatever stands behind it. Nor does one that may ask for much begin as `has_brief` has it, and
+/// each that asks for little does. There are no other words by which a message asks for something, but `name`, which is
+/// the server's own and refused.
 pub fn law_of_fronts()
     ensures hasty { (text : List ℕ) → is_hasty_word (word_of text) ≡ true → 5 ≤ length text →
         is_act (take 5 text) ≡ true }
-    ensures others { (text : List ℕ) → has_word (brief_words ++ long_words) text ≡ true →
-        is_act (take 5 text) ≡ false }
-    ensures long { (text : List ℕ) → has_word long_words text ≡ true → is_brief (take 5 text) ≡ false }
+    ensures others { (text rest : List ℕ) → has_word (brief_words ++ long_words) text ≡ true →
+        is_act (take 5 (text ++ rest)) ≡ false }
+    ensures long { (text rest : List ℕ) → has_word long_words text ≡ true →
+        is_brief (take 5 (text ++ rest)) ≡ false }
     ensures brief { (text : List ℕ) → has_word brief_words text ≡ true → 5 ≤ length text →
         is_brief (take 5 text) ≡ true }
     ensures known { (text : List ℕ) → sort_of text ≢ Nothing → bytes_eq (word_of text) (codes "name") ≡ false →
