@@ -602,10 +602,15 @@ abbrev pub is_first : KeptAnswer → List Waiting → Bool
 is_first answer [] = false
 is_first answer (one ∷ ones) = is_line one.kind && bytes_eq (string_bytes one.text) (string_bytes answer.pgn)
 
--- A browser is told some of what waits for it, in front.
+-- how many of these are answers to `line G` that are to be made
+abbrev pub lines_in : List Waiting → ℕ
+lines_in waits = count_by (λ (one : Waiting). is_line one.kind) waits
+
+-- A browser is told some of what waits for it, in front: by an answer to `line G` one of these at most.
 pub record IsCaughtUp {S : Type 0} (at : ℕ) (old new : Guest S) : Type 0 where
   pub front : List Waiting
   pub are : AreNextTold at front old new
+  pub once : lines_in front ≤ 1
   pub at_line : AtLine old.waits.items → AtLine new.waits.items
 
 -- One more may be told this answer, for which it waits first: then less waits for it, and one less may be told it. All

@@ -598,7 +598,8 @@ impl<S> Guest<S> {
 
     // What waits first is told, where that is not to be made. It tells whether it was.
     fn tell_whole(&mut self, counts: &mut Counts) -> bool
-        ensures told { result ≡ true → (one : WaitingValue) × IsNextTold counts.old.at one self.old self.new }
+        ensures told { result ≡ true → (one : WaitingValue) × (waiting.is_line one.kind ≡ false)
+            × IsNextTold counts.old.at one self.old self.new }
         ensures none { result ≡ false → self.new ≡ self.old }
         ensures line { result ≡ false → AtLine self.old.waits.items }
         ensures counts { CountsNoLogin counts.old counts.new }

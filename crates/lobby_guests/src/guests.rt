@@ -2,7 +2,7 @@
 #![tactic(auto, using(lobby_talk::proofs::Each::zipped_none, lobby_talk::proofs::Each::zipped_vec))]
 
 ghost use Rattle.std.specs.Prelude.{ℕ, Bool, true, false, nat_lt, length, ◌<◌, ◌≡◌, [], List, Option, IfOk, OnOk};
-ghost use Rattle.std.specs.Prelude.{Some, IfSome, count_by, slice_index_or, slice_set, ◌≢◌, IsTrue, ◌↔◌};
+ghost use Rattle.std.specs.Prelude.{Some, count_by, slice_index_or, slice_set, ◌≢◌, IsTrue, ◌↔◌};
 ghost use Rattle.std.specs.Option.{option_map};
 ghost use Rattle.std.specs.List.{AllZip, HoldsAt};
 ghost use Rattle.lobby_guests.specs.Counting.{refusals_in, CountsLogins, CountsNoLogin};
@@ -24,7 +24,7 @@ ghost use Rattle.lobby_talk.specs.Replaying.{Replays};
 ghost use Rattle.lobby_talk.specs.declared.kept_answer.KeptAnswer.{KeptAnswer as KeptAnswerValue};
 ghost use Rattle.lobby_talk.specs.Talking.{IsTalkAsBefore, acts_at};
 ghost use Rattle.lobby_talk.specs.Front.{may_be_act};
-ghost use Rattle.lobby_talk.specs.Keeping.{AreKept, IsPut};
+ghost use Rattle.lobby_talk.specs.Keeping.{AreKept, IsPutIf};
 ghost use Rattle.lobby_web.specs.Browsing.{unread};
 
 use crate::guest::Guest;
@@ -405,7 +405,7 @@ fn answer_waiting<S>(
     ensures answers { OnOk result (∥ ((answer : Option KeptAnswerValue)
         × Replays talk.old.kept.answers.items (wanted_text guests.old.items) talk.old.replay talk.new.replay answer
         × AreAnswered answer guests.old.items guests.new.items
-        × IfSome answer (λ one. IsPut one talk.new.kept.answers.items)) ∥₁) }
+        × IsPutIf answer talk.old.kept.answers.items talk.new.kept.answers.items) ∥₁) }
     ensures rest { OnOk result (IsTalkAsBefore talk.old talk.new) }
     ensures counts { OnOk result (CountsNoLogin counts.old counts.new) }
 {
