@@ -1,7 +1,8 @@
 -- The server is reached or not, browsers come, and the hall has its turn.
-use Rattle.std.proofs.Common.{◌∙◌, ap, sym, subst}
+use Rattle.std.proofs.Common.{◌∙◌, ◌||◌, Bool, ap, sym, subst}
 use Rattle.std.specs.Prelude.{nat_lt}
 use Rattle.lobby_loop.specs.Turning.{IsReached}
+use Rattle.lobby_loop.proofs.Seats.{or_true}
 use Rattle.lobby_loop.proofs.lobby.Lobby.turn.Goals as goal
 
 pub returns-clause-turned : goal.returns-clause-turned
@@ -20,4 +21,5 @@ returns-clause-turned g c =
       turned.1 ∙ ap (λ n. nat_lt c.args.at n) (c.welcome.ensures.short ∙ c.reach_server.ensures.short ∙ c.hold.ensures.short),
       turned.2,
       turned.3,
+      λ long. c.turned.ensures.worked (ap (λ (b : Bool). c.has_reached || b) (turned.4 long) ∙ or_true c.has_reached),
     )
