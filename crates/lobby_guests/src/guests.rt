@@ -16,7 +16,7 @@ ghost use Rattle.lobby_guests.specs.Rounds.{room_of, others_room, TakesTurn, Has
 ghost use Rattle.lobby_guests.specs.Guests.{AreAttended, AreTold, AreDelivered, IsWritten, IsLookedAfter, IsClosedIf};
 ghost use Rattle.lobby_guests.specs.Guests.{AreClosed, AreParted, IsCaughtUp, AreAnswered, first_wanted, has_waiting};
 ghost use Rattle.lobby_guests.specs.Guests.{wanted_text};
-ghost use Rattle.lobby_guests.specs.Guests.{LeavesOthers, LeavesStranger};
+ghost use Rattle.lobby_guests.specs.Guests.{LeavesOthers, HearsNoPlayer, LeavesStranger};
 ghost use Rattle.lobby_guests.specs.Waking.{IsAwake, StaysUnlessNamed, IsAwakeIfNamed, NamesGrow, IsPlaceNamed};
 ghost use Rattle.lobby_guests.specs.Waking.{number_named};
 ghost use Rattle.lobby_guests.specs.Waiting as waiting;
@@ -141,8 +141,9 @@ fn serve_player<S: Read + Write, K: KeepsLinks>(
     piece: &mut [u8; PIECE_ROOM],
     coming: &mut Coming,
 ) -> Result<bool, AllocError>
-    ensures { OnOk result (IsPlayerServed S.remaining site.now at guest.old guest.new (room_of talk.old asks.old)
-        (room_of talk.new asks.new)) }
+    ensures served { OnOk result (IsPlayerServed S.remaining site.now at guest.old guest.new
+        (room_of talk.old asks.old) (room_of talk.new asks.new)) }
+    ensures silent { IfOk result (λ any. any ≡ false → talk.new ≡ talk.old) }
 {
     let has_read = guest.read_in(true, site, at, piece, coming);
     let is_asked = is_to_ask(guest, asks, talk, at)?;
@@ -164,8 +165,9 @@ fn attend_player<S: Read + Write, K: KeepsLinks>(
     piece: &mut [u8; PIECE_ROOM],
     coming: &mut Coming,
 ) -> Result<bool, AllocError>
-    ensures { OnOk result (IsPlayersTurn S.remaining site.now at guest.old guest.new (room_of talk.old asks.old)
-        (room_of talk.new asks.new)) }
+    ensures turned { OnOk result (IsPlayersTurn S.remaining site.now at guest.old guest.new
+        (room_of talk.old asks.old) (room_of talk.new asks.new)) }
+    ensures silent { IfOk result (λ any. any ≡ false → talk.new ≡ talk.old) }
 {
     let is_turn = talk.acts(guest.number()) && guest.has_time(at);
     if !is_turn {
@@ -201,6 +203,7 @@ fn attend_players<S: Read + Write, K: KeepsLinks>(
     ensures brief { IfOk result (λ any. has_later asks.new.brief ≡ true → any ≡ true) }
     ensures long { IfOk result (λ any. IsAnswered talk.old.desk asks.old.asker → has_later asks.new.long ≡ true
         → any ≡ true) }
+    ensures silent { IfOk result (λ any. any ≡ false → talk.new ≡ talk.old) }
 {
     let mut any = false;
     let is_free = is_answered(asks.asker, talk);
@@ -296,9 +299,9 @@ pub fn attend_all<S: Read + Write, K: KeepsLinks>(
     piece: &mut [u8; PIECE_ROOM],
     counts: &mut Counts,
 ) -> Result<bool, AllocError>
-    ensures attended { OnOk result ((attended : AreAttended S.remaining site.now at guests.old.items guests.new.items
-        talk.old talk.new) × (is_short ≡ true → LeavesOthers attended)
-        × KnowsAsks rounds.old.asks rounds.new.asks attended) }
+    ensures attended { IfOk result (λ any. (attended : AreAttended S.remaining site.now at guests.old.items
+        guests.new.items talk.old talk.new) × (is_short ≡ true → LeavesOthers attended)
+        × KnowsAsks rounds.old.asks rounds.new.asks attended × (any ≡ false → HearsNoPlayer attended)) }
     ensures logins { OnOk result (counts.new.logins_refused ≡ counts.old.logins_refused) }
     ensures brief { IfOk result (λ any. has_later rounds.new.asks.brief ≡ true → any ≡ true) }
     ensures long { IfOk result (λ any. IsAnswered talk.old.desk rounds.old.asks.asker

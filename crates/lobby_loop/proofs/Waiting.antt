@@ -1,8 +1,14 @@
 -- How long a lobby waits.
-use Rattle.std.proofs.Common.{◌≡◌, ◌≤◌, ◌-◌, ℕ, Option, None, Some, sym, subst, arith}
+use Rattle.std.proofs.Common.{◌≡◌, ◌≤◌, ◌-◌, ℕ, Bool, true, false, Option, None, Some, inl, inr, refl, sym, subst, arith}
+use Rattle.std.specs.Prelude.{◌⊎◌}
 use Rattle.std.specs.Prelude.{IfSome, IsSomeAnd}
 use Rattle.std.specs.Option.{option_map}
 use Rattle.lobby_guests.specs.Guests.{earlier}
+
+-- there was something to do, or not
+pub by_work : {A B : Type 0} (has_worked : Bool) → (has_worked ≡ true → A) → (has_worked ≡ false → B) → A ⊎ B
+by_work true worked idle = inl (worked refl)
+by_work false worked idle = inr (idle refl)
 
 by_next : (a next : Option ℕ) → IfSome next (λ moment. IsSomeAnd (earlier a next) (λ n. n ≤ moment))
 by_next None None = tt

@@ -3,6 +3,7 @@ use Rattle.std.proofs.Common.{◌∙◌, ◌||◌, Bool, ap, sym, subst}
 use Rattle.std.specs.Prelude.{nat_lt}
 use Rattle.lobby_loop.specs.Turning.{IsReached}
 use Rattle.lobby_loop.proofs.Seats.{or_true}
+use Rattle.lobby_loop.proofs.Waiting.{by_work}
 use Rattle.lobby_loop.proofs.lobby.Lobby.turn.Goals as goal
 
 pub returns-clause-turned : goal.returns-clause-turned
@@ -22,4 +23,6 @@ returns-clause-turned g c =
       turned.2,
       turned.3,
       λ long. c.turned.ensures.worked (ap (λ (b : Bool). c.has_reached || b) (turned.4 long) ∙ or_true c.has_reached),
+      by_work c.has_turned (λ is. c.turned.ensures.worked (ap (λ (b : Bool). c.has_reached || b) is ∙ or_true c.has_reached))
+          turned.5,
     )
