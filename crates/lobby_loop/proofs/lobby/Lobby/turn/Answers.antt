@@ -22,7 +22,7 @@ returns-clause-turned g c =
       turned.1 ∙ ap (λ n. nat_lt c.args.at n) (c.welcome.ensures.short ∙ c.reach_server.ensures.short ∙ c.hold.ensures.short),
       turned.2,
       turned.3,
-      λ long. c.turned.ensures.worked (ap (λ (b : Bool). c.has_reached || b) (turned.4 long) ∙ or_true c.has_reached),
-      by_work c.has_turned (λ is. c.turned.ensures.worked (ap (λ (b : Bool). c.has_reached || b) is ∙ or_true c.has_reached))
+      λ long. c.turned.ensures.worked (ap (λ (b : Bool). c.in_ok-has_reached.has_reached || b) (turned.4 long) ∙ or_true c.in_ok-has_reached.has_reached),
+      by_work c.in_ok-has_turned.has_turned (λ is. c.turned.ensures.worked (ap (λ (b : Bool). c.in_ok-has_reached.has_reached || b) is ∙ or_true c.in_ok-has_reached.has_reached))
           turned.5,
     )

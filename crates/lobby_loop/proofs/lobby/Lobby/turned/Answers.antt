@@ -6,7 +6,7 @@ use Rattle.lobby_loop.proofs.Waiting.{earlier_by, rests}
 use Rattle.lobby_loop.proofs.lobby.Lobby.turned.Goals as goal
 
 pub returns-else-has_worked-clause-idle : goal.returns-else-has_worked-clause-idle
-returns-else-has_worked-clause-idle g c =
+returns-else-has_worked-clause-idle c =
     let next = next_moment c.args.at c.args.self.now.hall in
     let moment = c.earlier-moment.result in
     rests c.args.at next moment c.map.result
