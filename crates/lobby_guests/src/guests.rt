@@ -240,32 +240,9 @@ fn attend_other<S: Read + Write, K: KeepsLinks>(
     attend(guest, site, talk, at, links, piece, coming)
 }
 
-// Attends some of those who act for nobody, and tells whether there was anything or more can be attended at once.
+// Attends some of those who act for nobody, where they do not wait. It tells whether there was anything, or more can be
+// attended at once.
 fn attend_others<S: Read + Write, K: KeepsLinks>(
-    guests: &mut Vec<Guest<S>>,
-    strangers: &mut Strangers,
-    site: &Site,
-    talk: &mut Talk,
-    at: u64,
-    links: &mut K,
-    piece: &mut [u8; PIECE_ROOM],
-    coming: &mut Coming,
-) -> Result<bool, AllocError>
-    ensures { OnOk result ((room : Room) × (room.talk ≡ talk.new)
-        × InTurn (IsOthersTurn S.remaining site.now at) guests.old.items guests.new.items (full_room talk.old) room) }
-{
-    let mut any = false;
-    let next = next_key(guests.as_slice());
-    strangers.begin(count_unheard(guests.as_slice()), next);
-    for guest in guests.iter_mut() {
-        any |= attend_other(guest, strangers, site, talk, at, links, piece, coming)?;
-    }
-    let can_more = strangers.round.end();
-    Ok(any | can_more)
-}
-
-// Attends some of those who act for nobody, where they do not wait.
-fn attend_unless<S: Read + Write, K: KeepsLinks>(
     guests: &mut Vec<Guest<S>>,
     waits: bool,
     strangers: &mut Strangers,
@@ -283,7 +260,14 @@ fn attend_unless<S: Read + Write, K: KeepsLinks>(
     if waits {
         return Ok(false);
     }
-    attend_others(guests, strangers, site, talk, at, links, piece, coming)
+    let mut any = false;
+    let next = next_key(guests.as_slice());
+    strangers.begin(count_unheard(guests.as_slice()), next);
+    for guest in guests.iter_mut() {
+        any |= attend_other(guest, strangers, site, talk, at, links, piece, coming)?;
+    }
+    let can_more = strangers.round.end();
+    Ok(any | can_more)
 }
 
 /// Reads for players, and says to the desk what came next of each of them; and then for some of those who act for
@@ -318,7 +302,7 @@ pub fn attend_all<S: Read + Write, K: KeepsLinks>(
         piece,
         &mut coming,
     )?;
-    let others = attend_unless(
+    let others = attend_others(
         guests,
         is_short,
         &mut rounds.strangers,
@@ -491,27 +475,9 @@ fn write_players<S: Read + Write>(
     any | can_more
 }
 
-// Writes to some of the others what they take. It tells whether that was anything, or more can be written.
+// Writes to some of the others what they take, where they do not wait. It tells whether that was anything, or more can
+// be written.
 fn write_others<S: Read + Write>(
-    guests: &mut Vec<Guest<S>>,
-    site: &Site,
-    talk: &Talk,
-    round: &mut Round,
-) -> bool
-    ensures { AllZip (IsWritten S.contents site.now) guests.old.items guests.new.items }
-{
-    let mut any = false;
-    round.begin(WRITTEN_MOST, next_key(guests.as_slice()));
-    for guest in guests.iter_mut() {
-        let is_turn = guest.to_write() > 0 && !talk.acts(guest.number()) && round.take(guest.key());
-        any |= guest.write_out(site, is_turn);
-    }
-    let can_more = round.end();
-    any | can_more
-}
-
-// Writes to some of the others, where they do not wait.
-fn write_unless<S: Read + Write>(
     guests: &mut Vec<Guest<S>>,
     waits: bool,
     site: &Site,
@@ -524,7 +490,14 @@ fn write_unless<S: Read + Write>(
     if waits {
         return false;
     }
-    write_others(guests, site, talk, round)
+    let mut any = false;
+    round.begin(WRITTEN_MOST, next_key(guests.as_slice()));
+    for guest in guests.iter_mut() {
+        let is_turn = guest.to_write() > 0 && !talk.acts(guest.number()) && round.take(guest.key());
+        any |= guest.write_out(site, is_turn);
+    }
+    let can_more = round.end();
+    any | can_more
 }
 
 /// Writes to players what they take, and then to some of the others, but not in a short turn. It tells whether that was
@@ -542,7 +515,7 @@ pub fn write_all<S: Read + Write>(
     ensures asks { rounds.new.asks ≡ rounds.old.asks }
 {
     let players = write_players(guests, &mut rounds.told, site, talk);
-    let others = write_unless(guests, is_short, site, talk, &mut rounds.written);
+    let others = write_others(guests, is_short, site, talk, &mut rounds.written);
     rounds.has_others |= others;
     players
 }

@@ -19,7 +19,7 @@ loop-guest-init g c =
     let begins = c.begin.ensures
     ∙ ap (λ (n : ℕ). begun_asks c.is_answered-is_free.result n c.args.asks.now) next in (
       subst (λ (a : Asks). IsTurnedTo does 0 c.args.guests.now.items c.deref_mut-guest-items.result.now begun
-      (room_of c.args.talk.now a)) (sym begins)
+          (room_of c.args.talk.now a)) (sym begins)
           (turned_none does c.args.guests.now.items c.deref_mut-guest-items.result.now begun
           c.deref_mut-guest-items.ensures.value),
       λ none. refl,
