@@ -7,7 +7,7 @@ ghost use Rattle.websocket.specs.Content.{text as Text, ping as Ping};
 ghost use Rattle.lobby_web.specs.Browsing.{pending, unread, Answers, WantsBytes, IsOver, is_open, Takes};
 ghost use Rattle.lobby_web.specs.Browsing.{TakesBytes, Writes, HearsNext, SaysTo, IsNew, IsHeaded};
 ghost use Rattle.lobby_web.specs.declared.browser.Stage.TheVariants as At;
-ghost use Rattle.lobby_web.specs.Heading.{heading_of};
+ghost use Rattle.lobby_web.specs.Heading.{heading_of, has_begun};
 
 use crate::answer::Asked;
 use crate::heading::{Heading, MOST_IN_HEAD};
@@ -197,6 +197,13 @@ impl Browser {
             Stage::Socket(socket) => socket.wants_read(),
             Stage::Over => false,
         }
+    }
+
+    /// Whether a head has begun, of a request or of what is none.
+    pub fn has_begun(&self) -> bool
+        ensures { result ≡ has_begun self.now.heading }
+    {
+        self.heading.length > 0
     }
 
     /// Whether something may be said.
