@@ -300,8 +300,11 @@ impl<S> Guest<S> {
         if self.has_more || !self.browser.out().is_empty() {
             return Work::Answering;
         }
-        let has_read = self.paid_until > 0 && !self.can_read;
-        if has_read && self.number.is_none() && !self.browser.has_begun() {
+        if self.paid_until > 0
+            && !self.can_read
+            && self.number.is_none()
+            && !self.browser.has_begun()
+        {
             Work::Idle
         } else {
             Work::Awaited
