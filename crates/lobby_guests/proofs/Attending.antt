@@ -1,5 +1,5 @@
 -- Who has its turn is attended, and to who has none nothing happens.
-use Rattle.std.proofs.Common.{◌≡◌, ℕ, ◌&&◌, Bool, true, false, List, [], ◌∷◌, Option, Some, None, inl, inr, refl, ap, arith}
+use Rattle.std.proofs.Common.{◌≡◌, ℕ, ◌&&◌, ◌||◌, Bool, true, false, List, [], ◌∷◌, Option, Some, None, inl, inr, refl, ap, arith}
 use Rattle.std.specs.Io.KnownBytes.{Consumes}
 use Rattle.lobby_web.specs.declared.site.Site.{Site}
 use Rattle.lobby_guests.specs.declared.guest.Guest.{Guest}
@@ -7,6 +7,15 @@ use Rattle.lobby_talk.specs.declared.talk.Talk.{Talk}
 use Rattle.lobby_guests.specs.Guests.{InTurn, IsAttended, IsHeard, IsPlayerHeard, IsPlayerServed, IsServedIf, IsPlayersTurn, IsOthersTurn, Room, Asking, has_time}
 use Rattle.lobby_talk.specs.Talking.{acts_at}
 use Rattle.lobby_guests.proofs.EachGuest.{in_turn_as}
+
+-- what neither is, each is not
+pub or_left : (a b : Bool) → (a || b) ≡ false → a ≡ false
+or_left true b none = none
+or_left false b none = refl
+
+pub or_right : (a b : Bool) → (a || b) ≡ false → b ≡ false
+or_right true b none = cc
+or_right false b none = none
 
 module _ {S : Type 0} (remaining : S → Option (List ℕ)) (site : Site) (at : ℕ) where
   -- nothing comes

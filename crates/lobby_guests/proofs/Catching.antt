@@ -1,6 +1,7 @@
 -- What waits in front is told.
-use Rattle.std.proofs.Common.{◌≡◌, ◌<◌, ◌∙◌, ◌||◌, ℕ, Bool, true, false, List, [], ◌∷◌, not, length, get_or, refl, ap, sym, subst, arith}
+use Rattle.std.proofs.Common.{◌≡◌, ◌<◌, ◌≤◌, ◌+◌, ◌∙◌, ◌||◌, ℕ, Bool, cond, true, false, List, [], ◌∷◌, not, length, get_or, refl, ap, sym, subst, arith}
 use Rattle.std.specs.List.{AllZip, remove}
+use Rattle.std.proofs.lemmas.List.Sums.{sum_by-cons}
 use Rattle.std.specs.String.{string_bytes}
 use Rattle.std.proofs.lemmas.Bool.{false≢true, and_parts}
 use Rattle.std.proofs.lemmas.Slice.Eq.{bytes_eq-Decides}
@@ -14,7 +15,7 @@ use Rattle.lobby_web.specs.Browsing.{SaysTo}
 use Rattle.lobby_guests.specs.declared.guest.Guest.{Guest}
 use Rattle.lobby_guests.specs.declared.waiting.Waiting.{Waiting}
 use Rattle.lobby_guests.specs.Waiting.{is_line, must_wait, IsToldBy, AtLine, has_whole}
-use Rattle.lobby_guests.specs.Guests.{IsSameVisit, IsStill, IsLeftAlone, NotesLogin, IsPassedOn, IsGivenIf, IsTold, is_first, IsCaughtUp, IsSaid, is_cut}
+use Rattle.lobby_guests.specs.Guests.{IsSameVisit, IsStill, IsLeftAlone, NotesLogin, IsPassedOn, IsGivenIf, IsTold, is_first, lines_in, IsCaughtUp, IsSaid, is_cut}
 
 -- the first, and the others
 pub first_there : {X : Type 0} (xs : List X) (d : X) → 0 < length xs → d ≡ get_or xs 0 d → xs ≡ d ∷ remove xs 0
@@ -29,7 +30,7 @@ pub answer_there : (answer : KeptAnswer) (waits : List Waiting) → is_first ans
 answer_there answer [] is = absurd (false≢true is)
 answer_there answer (one ∷ ones) is = omega arith
 
-not_line : (b : Bool) → not b ≡ true → b ≡ false
+pub not_line : (b : Bool) → not b ≡ true → b ≡ false
 not_line true is = absurd (false≢true is)
 not_line false is = refl
 
@@ -48,6 +49,29 @@ by_text false text told is same = same
 by_answer : (b : Bool) (text told pgn : List ℕ) → b ≡ true → text ≡ pgn → ∥ IsOfLine pgn told ∥₁ → IsToldBy b text told
 by_answer true text told pgn is same made = subst (λ (l : List ℕ). ∥ IsOfLine l told ∥₁) (sym same) made
 by_answer false text told pgn is same made = absurd (false≢true is)
+
+-- ---- of what is told, one is an answer
+
+one_most : (b : Bool) → cond b 1 0 ≤ 1
+one_most true = omega arith
+one_most false = omega arith
+
+one_none : (b : Bool) → b ≡ false → cond b 1 0 ≤ 0
+one_none true is = absurd (false≢true (sym is))
+one_none false is = omega arith
+
+pub one_line : (one : Waiting) → lines_in (one ∷ []) ≤ 1
+one_line one =
+    let is : lines_in (one ∷ []) ≡ cond (is_line one.kind) 1 0 + 0 =
+    sum_by-cons (λ (w : Waiting). cond (is_line w.kind) 1 0) one [] in
+    omega (arith, is, one_most (is_line one.kind))
+
+pub one_whole : (one : Waiting) (front : List Waiting) → is_line one.kind ≡ false → lines_in front ≤ 1 →
+    lines_in (one ∷ front) ≤ 1
+one_whole one front whole few =
+    let is : lines_in (one ∷ front) ≡ cond (is_line one.kind) 1 0 + lines_in front =
+    sum_by-cons (λ (w : Waiting). cond (is_line w.kind) 1 0) one front in
+    omega (arith, is, one_none (is_line one.kind) whole, few)
 
 -- how the first is told, whole or by an answer
 pub told_whole : (waits : List Waiting) (one : Waiting) (ones : List Waiting) (told : List ℕ) → waits ≡ one ∷ ones →
@@ -81,7 +105,7 @@ module _ {S : Type 0} where
   }
 
   pub caught_none : (at : ℕ) (guest : Guest S) → IsCaughtUp at guest guest
-  caught_none at guest = record { front = []; are = refl; at_line = λ so. so }
+  caught_none at guest = record { front = []; are = refl; once = omega arith; at_line = λ so. so }
 
   pub all_caught_none : (at : ℕ) (guests : List (Guest S)) → AllZip (IsCaughtUp at) guests guests
   all_caught_none at [] = tt

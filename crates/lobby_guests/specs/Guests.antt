@@ -504,6 +504,11 @@ abbrev pub LeavesOthers : {S : Type 0} → {remaining : S → Option (List ℕ)}
     → {old new : List (Guest S)} → {talk after : Talk} → AreAttended remaining site at old new talk after → Type 0
 LeavesOthers {new = new} {after = after} attended = (new ≡ attended.first) × (after ≡ attended.said.talk)
 
+-- Of players nothing is heard.
+abbrev pub HearsNoPlayer : {S : Type 0} → {remaining : S → Option (List ℕ)} → {site : Site} → {at : ℕ}
+    → {old new : List (Guest S)} → {talk after : Talk} → AreAttended remaining site at old new talk after → Type 0
+HearsNoPlayer {talk = talk} attended = attended.said.talk ≡ talk
+
 -- It is known who asked for much last, where the rounds go on, and until when each player has paid for his acts.
 abbrev pub KnowsAsks : {S : Type 0} → {remaining : S → Option (List ℕ)} → {site : Site} → {at : ℕ}
     → {old new : List (Guest S)} → {talk after : Talk} → Asks → Asks
@@ -602,10 +607,15 @@ abbrev pub is_first : KeptAnswer → List Waiting → Bool
 is_first answer [] = false
 is_first answer (one ∷ ones) = is_line one.kind && bytes_eq (string_bytes one.text) (string_bytes answer.pgn)
 
--- A browser is told some of what waits for it, in front.
+-- how many of these are answers to `line G` that are to be made
+abbrev pub lines_in : List Waiting → ℕ
+lines_in waits = count_by (λ (one : Waiting). is_line one.kind) waits
+
+-- A browser is told some of what waits for it, in front: by an answer to `line G` one of these at most.
 pub record IsCaughtUp {S : Type 0} (at : ℕ) (old new : Guest S) : Type 0 where
   pub front : List Waiting
   pub are : AreNextTold at front old new
+  pub once : lines_in front ≤ 1
   pub at_line : AtLine old.waits.items → AtLine new.waits.items
 
 -- One more may be told this answer, for which it waits first: then less waits for it, and one less may be told it. All

@@ -9,6 +9,7 @@ use Rattle.lobby_guests.specs.declared.place.Role.TheVariants.{Gone, Player, New
 use Rattle.lobby_guests.specs.declared.place.Work.{Work}
 use Rattle.lobby_guests.specs.declared.place.Work.TheVariants.{Answering, Idle, Awaited}
 use Rattle.lobby_web.specs.Browsing.{pending}
+use Rattle.lobby_web.specs.Heading.{has_begun}
 use Rattle.lobby_guests.specs.Guests.{IsAsBefore}
 pub use Rattle.lobby_guests.specs.Paces.{player_of}
 
@@ -32,9 +33,11 @@ role_of desk false number = role_by (acts_at desk number)
 abbrev pub is_answering : {S : Type 0} → Guest S → Bool
 is_answering guest = guest.has_more || nat_lt 0 (length (pending guest.browser.stage))
 
--- Something was read of one whose socket is not open, and nothing more is there.
+-- Something was read of one whose socket is not open, and nothing more is there, nor has another head begun.
 abbrev pub has_rest : {S : Type 0} → Guest S → Bool
-has_rest guest = nat_lt 0 guest.paid_until && not guest.can_read && not (is_some guest.number)
+has_rest guest =
+    nat_lt 0 guest.paid_until && not guest.can_read && not (is_some guest.number)
+    && not (has_begun guest.browser.heading)
 
 -- what is left to do for what came of it
 abbrev pub work_of : {S : Type 0} → Guest S → Work

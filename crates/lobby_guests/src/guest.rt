@@ -1,6 +1,6 @@
 //! A browser's connection: its socket, what it says, and what it is told.
 ghost use Rattle.std.specs.Prelude.{ℕ, ◌≡◌, ◌≢◌, ◌<◌, ◌≤◌, ◌+◌, ◌/◌, ◌↔◌, ◌||◌, None, Some, [], length, true, false};
-ghost use Rattle.std.specs.Prelude.{IsTrue, OnOk};
+ghost use Rattle.std.specs.Prelude.{IsTrue, OnOk, IfOk};
 ghost use Rattle.lobby_desk.specs.Who.{IsReady, at_table};
 ghost use Rattle.lobby_guests.specs.Guests.{has_time, IsNewGuest, ComesFrom, IsRead, IsStill};
 ghost use Rattle.lobby_guests.specs.Guests.{IsHeardAs, IsHeard, IsAsked, is_untimely, MaySpeak, MayBeAsked, IsSaid};
@@ -300,7 +300,11 @@ impl<S> Guest<S> {
         if self.has_more || !self.browser.out().is_empty() {
             return Work::Answering;
         }
-        if self.paid_until > 0 && !self.can_read && self.number.is_none() {
+        if self.paid_until > 0
+            && !self.can_read
+            && self.number.is_none()
+            && !self.browser.has_begun()
+        {
             Work::Idle
         } else {
             Work::Awaited
@@ -370,7 +374,7 @@ impl<S> Guest<S> {
         at: u64,
         links: &mut K,
         coming: &mut Coming,
-    ) -> Result<bool, AllocError>
+    ) -> Result<(), AllocError>
         requires { MaySpeak talk.old.desk self.old.number }
         ensures told { OnOk result (IsHeardAs (Some heard.now) at self.old.number self.new.number talk.old talk.new) }
         ensures browser { OnOk result (self.new.browser ≡ self.old.browser) }
@@ -389,25 +393,25 @@ impl<S> Guest<S> {
                 None => {
                     self.number = Some(talk.opened()?);
                     self.paid_until = 0;
-                    Ok(true)
+                    Ok(())
                 }
                 // (it is told but once)
                 Some(_) => {
                     self.is_lost = true;
-                    Ok(true)
+                    Ok(())
                 }
             },
             Heard::Text(text) => match self.number {
                 // (none comes before that the socket is open)
                 None => {
                     self.is_lost = true;
-                    Ok(true)
+                    Ok(())
                 }
                 Some(number) => {
                     say_to_desk(text.as_slice(), number, talk, at, links)?;
                     coming.said();
                     self.asked.push(at);
-                    Ok(true)
+                    Ok(())
                 }
             },
         }
@@ -431,6 +435,7 @@ impl<S> Guest<S> {
         ensures waits { OnOk result (is_free self.old ≡ false → (self.new ≡ self.old) × (talk.new ≡ talk.old)) }
         ensures owes { OnOk result
             (self.new.paid_until ≡ owed_after self.old.number self.new.number self.old.paid_until) }
+        ensures silent { IfOk result (λ any. any ≡ false → talk.new ≡ talk.old) }
     {
         if !self.has_more || self.is_lost || !self.is_free() || !self.may_speak(talk) {
             return Ok(false);
@@ -441,7 +446,10 @@ impl<S> Guest<S> {
                 // (what waits in its socket may be read now)
                 Ok(self.can_read)
             }
-            Some(heard) => self.speak(&heard, talk, at, links, coming),
+            Some(heard) => {
+                self.speak(&heard, talk, at, links, coming)?;
+                Ok(true)
+            }
         }
     }
 
@@ -598,7 +606,8 @@ impl<S> Guest<S> {
 
     // What waits first is told, where that is not to be made. It tells whether it was.
     fn tell_whole(&mut self, counts: &mut Counts) -> bool
-        ensures told { result ≡ true → (one : WaitingValue) × IsNextTold counts.old.at one self.old self.new }
+        ensures told { result ≡ true → (one : WaitingValue) × (waiting.is_line one.kind ≡ false)
+            × IsNextTold counts.old.at one self.old self.new }
         ensures none { result ≡ false → self.new ≡ self.old }
         ensures line { result ≡ false → AtLine self.old.waits.items }
         ensures counts { CountsNoLogin counts.old counts.new }

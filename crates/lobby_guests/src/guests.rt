@@ -2,7 +2,7 @@
 #![tactic(auto, using(lobby_talk::proofs::Each::zipped_none, lobby_talk::proofs::Each::zipped_vec))]
 
 ghost use Rattle.std.specs.Prelude.{ℕ, Bool, true, false, nat_lt, length, ◌<◌, ◌≡◌, [], List, Option, IfOk, OnOk};
-ghost use Rattle.std.specs.Prelude.{Some, IfSome, count_by, slice_index_or, slice_set, ◌≢◌, IsTrue, ◌↔◌};
+ghost use Rattle.std.specs.Prelude.{Some, count_by, slice_index_or, slice_set, ◌≢◌, IsTrue, ◌↔◌};
 ghost use Rattle.std.specs.Option.{option_map};
 ghost use Rattle.std.specs.List.{AllZip, HoldsAt};
 ghost use Rattle.lobby_guests.specs.Counting.{refusals_in, CountsLogins, CountsNoLogin};
@@ -16,7 +16,7 @@ ghost use Rattle.lobby_guests.specs.Rounds.{room_of, others_room, TakesTurn, Has
 ghost use Rattle.lobby_guests.specs.Guests.{AreAttended, AreTold, AreDelivered, IsWritten, IsLookedAfter, IsClosedIf};
 ghost use Rattle.lobby_guests.specs.Guests.{AreClosed, AreParted, IsCaughtUp, AreAnswered, first_wanted, has_waiting};
 ghost use Rattle.lobby_guests.specs.Guests.{wanted_text};
-ghost use Rattle.lobby_guests.specs.Guests.{LeavesOthers, LeavesStranger};
+ghost use Rattle.lobby_guests.specs.Guests.{LeavesOthers, HearsNoPlayer, LeavesStranger};
 ghost use Rattle.lobby_guests.specs.Waking.{IsAwake, StaysUnlessNamed, IsAwakeIfNamed, NamesGrow, IsPlaceNamed};
 ghost use Rattle.lobby_guests.specs.Waking.{number_named};
 ghost use Rattle.lobby_guests.specs.Waiting as waiting;
@@ -24,7 +24,7 @@ ghost use Rattle.lobby_talk.specs.Replaying.{Replays};
 ghost use Rattle.lobby_talk.specs.declared.kept_answer.KeptAnswer.{KeptAnswer as KeptAnswerValue};
 ghost use Rattle.lobby_talk.specs.Talking.{IsTalkAsBefore, acts_at};
 ghost use Rattle.lobby_talk.specs.Front.{may_be_act};
-ghost use Rattle.lobby_talk.specs.Keeping.{AreKept, IsPut};
+ghost use Rattle.lobby_talk.specs.Keeping.{AreKept, IsPutIf};
 ghost use Rattle.lobby_web.specs.Browsing.{unread};
 
 use crate::guest::Guest;
@@ -141,8 +141,9 @@ fn serve_player<S: Read + Write, K: KeepsLinks>(
     piece: &mut [u8; PIECE_ROOM],
     coming: &mut Coming,
 ) -> Result<bool, AllocError>
-    ensures { OnOk result (IsPlayerServed S.remaining site.now at guest.old guest.new (room_of talk.old asks.old)
-        (room_of talk.new asks.new)) }
+    ensures served { OnOk result (IsPlayerServed S.remaining site.now at guest.old guest.new
+        (room_of talk.old asks.old) (room_of talk.new asks.new)) }
+    ensures silent { IfOk result (λ any. any ≡ false → talk.new ≡ talk.old) }
 {
     let has_read = guest.read_in(true, site, at, piece, coming);
     let is_asked = is_to_ask(guest, asks, talk, at)?;
@@ -164,8 +165,9 @@ fn attend_player<S: Read + Write, K: KeepsLinks>(
     piece: &mut [u8; PIECE_ROOM],
     coming: &mut Coming,
 ) -> Result<bool, AllocError>
-    ensures { OnOk result (IsPlayersTurn S.remaining site.now at guest.old guest.new (room_of talk.old asks.old)
-        (room_of talk.new asks.new)) }
+    ensures turned { OnOk result (IsPlayersTurn S.remaining site.now at guest.old guest.new
+        (room_of talk.old asks.old) (room_of talk.new asks.new)) }
+    ensures silent { IfOk result (λ any. any ≡ false → talk.new ≡ talk.old) }
 {
     let is_turn = talk.acts(guest.number()) && guest.has_time(at);
     if !is_turn {
@@ -201,6 +203,7 @@ fn attend_players<S: Read + Write, K: KeepsLinks>(
     ensures brief { IfOk result (λ any. has_later asks.new.brief ≡ true → any ≡ true) }
     ensures long { IfOk result (λ any. IsAnswered talk.old.desk asks.old.asker → has_later asks.new.long ≡ true
         → any ≡ true) }
+    ensures silent { IfOk result (λ any. any ≡ false → talk.new ≡ talk.old) }
 {
     let mut any = false;
     let is_free = is_answered(asks.asker, talk);
@@ -237,32 +240,9 @@ fn attend_other<S: Read + Write, K: KeepsLinks>(
     attend(guest, site, talk, at, links, piece, coming)
 }
 
-// Attends some of those who act for nobody, and tells whether there was anything or more can be attended at once.
+// Attends some of those who act for nobody, where they do not wait. It tells whether there was anything, or more can be
+// attended at once.
 fn attend_others<S: Read + Write, K: KeepsLinks>(
-    guests: &mut Vec<Guest<S>>,
-    strangers: &mut Strangers,
-    site: &Site,
-    talk: &mut Talk,
-    at: u64,
-    links: &mut K,
-    piece: &mut [u8; PIECE_ROOM],
-    coming: &mut Coming,
-) -> Result<bool, AllocError>
-    ensures { OnOk result ((room : Room) × (room.talk ≡ talk.new)
-        × InTurn (IsOthersTurn S.remaining site.now at) guests.old.items guests.new.items (full_room talk.old) room) }
-{
-    let mut any = false;
-    let next = next_key(guests.as_slice());
-    strangers.begin(count_unheard(guests.as_slice()), next);
-    for guest in guests.iter_mut() {
-        any |= attend_other(guest, strangers, site, talk, at, links, piece, coming)?;
-    }
-    let can_more = strangers.round.end();
-    Ok(any | can_more)
-}
-
-// Attends some of those who act for nobody, where they do not wait.
-fn attend_unless<S: Read + Write, K: KeepsLinks>(
     guests: &mut Vec<Guest<S>>,
     waits: bool,
     strangers: &mut Strangers,
@@ -280,7 +260,14 @@ fn attend_unless<S: Read + Write, K: KeepsLinks>(
     if waits {
         return Ok(false);
     }
-    attend_others(guests, strangers, site, talk, at, links, piece, coming)
+    let mut any = false;
+    let next = next_key(guests.as_slice());
+    strangers.begin(count_unheard(guests.as_slice()), next);
+    for guest in guests.iter_mut() {
+        any |= attend_other(guest, strangers, site, talk, at, links, piece, coming)?;
+    }
+    let can_more = strangers.round.end();
+    Ok(any | can_more)
 }
 
 /// Reads for players, and says to the desk what came next of each of them; and then for some of those who act for
@@ -296,9 +283,9 @@ pub fn attend_all<S: Read + Write, K: KeepsLinks>(
     piece: &mut [u8; PIECE_ROOM],
     counts: &mut Counts,
 ) -> Result<bool, AllocError>
-    ensures attended { OnOk result ((attended : AreAttended S.remaining site.now at guests.old.items guests.new.items
-        talk.old talk.new) × (is_short ≡ true → LeavesOthers attended)
-        × KnowsAsks rounds.old.asks rounds.new.asks attended) }
+    ensures attended { IfOk result (λ any. (attended : AreAttended S.remaining site.now at guests.old.items
+        guests.new.items talk.old talk.new) × (is_short ≡ true → LeavesOthers attended)
+        × KnowsAsks rounds.old.asks rounds.new.asks attended × (any ≡ false → HearsNoPlayer attended)) }
     ensures logins { OnOk result (counts.new.logins_refused ≡ counts.old.logins_refused) }
     ensures brief { IfOk result (λ any. has_later rounds.new.asks.brief ≡ true → any ≡ true) }
     ensures long { IfOk result (λ any. IsAnswered talk.old.desk rounds.old.asks.asker
@@ -315,7 +302,7 @@ pub fn attend_all<S: Read + Write, K: KeepsLinks>(
         piece,
         &mut coming,
     )?;
-    let others = attend_unless(
+    let others = attend_others(
         guests,
         is_short,
         &mut rounds.strangers,
@@ -405,7 +392,7 @@ fn answer_waiting<S>(
     ensures answers { OnOk result (∥ ((answer : Option KeptAnswerValue)
         × Replays talk.old.kept.answers.items (wanted_text guests.old.items) talk.old.replay talk.new.replay answer
         × AreAnswered answer guests.old.items guests.new.items
-        × IfSome answer (λ one. IsPut one talk.new.kept.answers.items)) ∥₁) }
+        × IsPutIf answer talk.old.kept.answers.items talk.new.kept.answers.items) ∥₁) }
     ensures rest { OnOk result (IsTalkAsBefore talk.old talk.new) }
     ensures counts { OnOk result (CountsNoLogin counts.old counts.new) }
 {
@@ -488,27 +475,9 @@ fn write_players<S: Read + Write>(
     any | can_more
 }
 
-// Writes to some of the others what they take. It tells whether that was anything, or more can be written.
+// Writes to some of the others what they take, where they do not wait. It tells whether that was anything, or more can
+// be written.
 fn write_others<S: Read + Write>(
-    guests: &mut Vec<Guest<S>>,
-    site: &Site,
-    talk: &Talk,
-    round: &mut Round,
-) -> bool
-    ensures { AllZip (IsWritten S.contents site.now) guests.old.items guests.new.items }
-{
-    let mut any = false;
-    round.begin(WRITTEN_MOST, next_key(guests.as_slice()));
-    for guest in guests.iter_mut() {
-        let is_turn = guest.to_write() > 0 && !talk.acts(guest.number()) && round.take(guest.key());
-        any |= guest.write_out(site, is_turn);
-    }
-    let can_more = round.end();
-    any | can_more
-}
-
-// Writes to some of the others, where they do not wait.
-fn write_unless<S: Read + Write>(
     guests: &mut Vec<Guest<S>>,
     waits: bool,
     site: &Site,
@@ -521,7 +490,14 @@ fn write_unless<S: Read + Write>(
     if waits {
         return false;
     }
-    write_others(guests, site, talk, round)
+    let mut any = false;
+    round.begin(WRITTEN_MOST, next_key(guests.as_slice()));
+    for guest in guests.iter_mut() {
+        let is_turn = guest.to_write() > 0 && !talk.acts(guest.number()) && round.take(guest.key());
+        any |= guest.write_out(site, is_turn);
+    }
+    let can_more = round.end();
+    any | can_more
 }
 
 /// Writes to players what they take, and then to some of the others, but not in a short turn. It tells whether that was
@@ -539,7 +515,7 @@ pub fn write_all<S: Read + Write>(
     ensures asks { rounds.new.asks ≡ rounds.old.asks }
 {
     let players = write_players(guests, &mut rounds.told, site, talk);
-    let others = write_unless(guests, is_short, site, talk, &mut rounds.written);
+    let others = write_others(guests, is_short, site, talk, &mut rounds.written);
     rounds.has_others |= others;
     players
 }

@@ -21,9 +21,9 @@ pub enum Role {
 pub enum Work {
     /// It is being answered: something of it may be left to hear, or something to write to it.
     Answering,
-    /// Requests of it were answered, and nothing more is there.
+    /// Requests of it were answered, and of none more a head has begun.
     Idle,
-    /// Nothing came of it yet, or its socket is open: what it shows is awaited.
+    /// No whole request came of it yet, or its socket is open: what it shows is awaited.
     Awaited,
 }
 

@@ -7,3 +7,4 @@ pub mod Room
 pub mod Tally
 pub mod Seats
 pub mod Leaving
+pub mod Waiting

@@ -37,7 +37,7 @@ use Rattle.lobby_talk.specs.Lines.{bytes_of as bytes_before, AreHeard}
 use Rattle.lobby_talk.specs.Held.{HoldsNoLine, IsKept}
 use Rattle.lobby_loop.specs.Turning.{BeginsHall, Admits, ServerComes, IsServerAsBefore, HearsServer, bytes_heard, PartsFromServer, TellsServer, HasTurned, texts_put, Comer, AreAdmitted, IsReached, IsLobbyTurn, is_look_time}
 use Rattle.lobby_loop.specs.Doing.{Gave, Spot, spot, DoesAt, all_tells, around, IsServed, AreServed, WereServed, AreAtLine, Before}
-use Rattle.lobby_loop.specs.Living.{Happening, Came, Woke, ServerCame, Turned, IsWoken, IsLife, left, written_in, taken_in, put_in, lost_if, kept, sent_in, line_more, lines_heard, notices_in, learned_in, noticed_in, notice_more, notices_told, IsHeld, IsOther, HasNone, IsOneOf, AreKnown, IsOwn, AreOwn, numbers, NoLineWaits, IsRightLife, Passing, TurnAt, Rested, IsLobbyLife, Filed, Files, before_in, Changed, Relisted, Learned, Notes, Enrolled, Noticed}
+use Rattle.lobby_loop.specs.Living.{Happening, Came, Woke, ServerCame, Turned, IsWoken, IsLife, left, written_in, taken_in, put_in, lost_if, kept, sent_in, line_more, lines_heard, notices_in, passed_in, notice_more, notices_told, IsHeld, IsOther, HasNone, IsOneOf, AreKnown, IsOwn, AreOwn, numbers, NoLineWaits, IsRightLife, Passing, TurnAt, Rested, IsLobbyLife, Filed, Files, before_in, Changed, Relisted, Learned, Notes, Enrolled, Noticed}
 use Rattle.lobby_loop.proofs.Lined.{same_line, lines_by, lines_filter, lines_both, turn_lines}
 use Rattle.lobby_loop.proofs.Serving.{IsApart, ApartFrom, AreApart, served_before, served_read, served_looked, served_written, served_told, served_caught_up, gave_nothing, gave_again, gave_early, gave_opened, gave_text, all_served_on, all_served_zip, all_served_filter, all_served_more, all_came, served_new, ClosedIf, AllClosed, closed_if_on, all_were_on, all_were_out, all_were_came, all_let_go, came_more, site_more, all_filed, all_were_filed}
 
@@ -1595,29 +1595,29 @@ module _ {S : Type 0} (remaining contents : S → Option (List ℕ)) (players : 
 
   -- ---- what passes at a lobby
 
-  -- a life, whatever happened, in which just this was noticed
-  abbrev IsSomeLife : List DeskInput → Hall S → Type 0
-  IsSomeLife noticed now =
-      (past : List (Happening S)) × IsLife remaining contents players at_first past now × (learned_in past ≡ noticed)
+  -- a life, whatever happened, in which just this passed
+  abbrev IsSomeLife : List Passing → Hall S → Type 0
+  IsSomeLife passed now =
+      (past : List (Happening S)) × IsLife remaining contents players at_first past now × (passed_in past ≡ passed)
 
-  reached_life : (noticed : List DeskInput) (old new : Hall S) → IsReached old new → IsSomeLife noticed old → IsSomeLife noticed new
-  reached_life noticed old new (inl same) (past, life, is) =
+  reached_life : (passed : List Passing) (old new : Hall S) → IsReached old new → IsSomeLife passed old → IsSomeLife passed new
+  reached_life passed old new (inl same) (past, life, is) =
       (past, subst (λ (h : Hall S). IsLife remaining contents players at_first past h) (sym same) life, is)
-  reached_life noticed old new (inr (none, (stream, comes))) (past, life, is) = (ServerCame stream ∷ past, (old, life, comes), is)
+  reached_life passed old new (inr (none, (stream, comes))) (past, life, is) = (ServerCame stream ∷ past, (old, life, comes), is)
 
-  welcomed_life : (noticed : List DeskInput) (at : ℕ) (comers : List (Comer S)) (old new : Hall S) → AreAdmitted at comers old new →
-      IsSomeLife noticed old → IsSomeLife noticed new
-  welcomed_life noticed at [] old new same (past, life, is) =
+  welcomed_life : (passed : List Passing) (at : ℕ) (comers : List (Comer S)) (old new : Hall S) → AreAdmitted at comers old new →
+      IsSomeLife passed old → IsSomeLife passed new
+  welcomed_life passed at [] old new same (past, life, is) =
       (past, subst (λ (h : Hall S). IsLife remaining contents players at_first past h) (sym same) life, is)
-  welcomed_life noticed at (comer ∷ comers) old new (between, are, is) so_far =
-      let so = welcomed_life noticed at comers old between are so_far in
+  welcomed_life passed at (comer ∷ comers) old new (between, are, is) so_far =
+      let so = welcomed_life passed at comers old between are so_far in
       (Came comer.stream ∷ so.0, (between, so.1, is.admits), so.2)
 
-  turned_life : (noticed : List DeskInput) (at : ℕ) (old new : Hall S) → IsLobbyTurn remaining contents at old new →
-      IsSomeLife noticed old → IsSomeLife noticed new
-  turned_life noticed at old new turn so_far =
-      let so = welcomed_life noticed at turn.comers turn.reached turn.welcomed turn.welcomes
-      (reached_life noticed old turn.reached turn.reaches so_far) in (
+  turned_life : (passed : List Passing) (at : ℕ) (old new : Hall S) → IsLobbyTurn remaining contents at old new →
+      IsSomeLife passed old → IsSomeLife (TurnAt at ∷ passed) new
+  turned_life passed at old new turn so_far =
+      let so = welcomed_life passed at turn.comers turn.reached turn.welcomed turn.welcomes
+      (reached_life passed old turn.reached turn.reaches so_far) in (
         Turned (record {
           at = at;
           taken = bytes_heard remaining turn.welcomed.server turn.turns.takes.server_heard turn.welcomed.talk turn.turns.takes.heard
@@ -1627,29 +1627,29 @@ module _ {S : Type 0} (remaining contents : S → Option (List ℕ)) (players : 
           front = turn.turns.hands.front;
         }) ∷ so.0,
         (turn.welcomed, so.1, record { turned = turn.turns; taken_is = refl; gone = refl; put_is = refl; front_is = refl }),
-        so.2,
+        ap (λ (more : List Passing). TurnAt at ∷ more) so.2,
       )
 
   lobby_life : (passed : List Passing) (now : Hall S) → IsLobbyLife remaining contents players at_first passed now →
-      IsSomeLife (noticed_in passed) now
+      IsSomeLife passed now
   lobby_life [] now begins = ([], begins, refl)
   lobby_life (TurnAt at ∷ passed) now (before, life, turn) =
-      turned_life (noticed_in passed) at before now turn (lobby_life passed before life)
+      turned_life passed at before now turn (lobby_life passed before life)
   lobby_life (Changed path file ∷ passed) now (before, life, files) =
       let so = lobby_life passed before life in
-      (Filed path file before.site ∷ so.0, (before, so.1, (files, refl)), so.2)
+      (Filed path file before.site ∷ so.0, (before, so.1, (files, refl)), ap (λ (more : List Passing). Changed path file ∷ more) so.2)
   lobby_life (Enrolled later ∷ passed) now (before, life, renews) =
       let so = lobby_life passed before life in
-      (Relisted later ∷ so.0, (before, so.1, renews), ap (λ (more : List DeskInput). Renewed later ∷ more) so.2)
+      (Relisted later ∷ so.0, (before, so.1, renews), ap (λ (more : List Passing). Enrolled later ∷ more) so.2)
   lobby_life (Noticed finding ∷ passed) now (before, life, finds) =
       let so = lobby_life passed before life in
-      (Learned finding ∷ so.0, (before, so.1, finds), ap (λ (more : List DeskInput). Found finding ∷ more) so.2)
+      (Learned finding ∷ so.0, (before, so.1, finds), ap (λ (more : List Passing). Noticed finding ∷ more) so.2)
   lobby_life (Rested ∷ passed) now (before, life, wakes) =
       let so = lobby_life passed before life in
-      (Woke ∷ so.0, (before, so.1, wakes), so.2)
+      (Woke ∷ so.0, (before, so.1, wakes), ap (λ (more : List Passing). Rested ∷ more) so.2)
 
   pub lobby_right : (passed : List Passing) (now : Hall S) → IsLobbyLife remaining contents players at_first passed now →
-      (past : List (Happening S)) × IsLife remaining contents players at_first past now × (learned_in past ≡ noticed_in passed)
+      (past : List (Happening S)) × IsLife remaining contents players at_first past now × (passed_in past ≡ passed)
       × IsRightLife remaining contents players at_first past now
   lobby_right passed now life =
       let so = lobby_life passed now life in

@@ -71,7 +71,7 @@ role_stays : (acts : Bool) → is_gone (role_by acts) ≡ false
 role_stays true = refl
 role_stays false = refl
 
-or_true : (b : Bool) → (b || true) ≡ true
+pub or_true : (b : Bool) → (b || true) ≡ true
 or_true true = refl
 or_true false = refl
 

@@ -146,13 +146,6 @@ notices_in (Relisted players ∷ past) = Renewed players ∷ notices_in past
 notices_in (Learned finding ∷ past) = Found finding ∷ notices_in past
 notices_in (_ ∷ past) = notices_in past
 
--- of these those of players and of what halts games
-abbrev pub learned_in : {S : Type 0} → List (Happening S) → List DeskInput
-learned_in [] = []
-learned_in (Relisted players ∷ past) = Renewed players ∷ learned_in past
-learned_in (Learned finding ∷ past) = Found finding ∷ learned_in past
-learned_in (_ ∷ past) = learned_in past
-
 -- all texts that the log has, in their order
 abbrev pub put_in : {S : Type 0} → List (Happening S) → List (List ℕ)
 put_in [] = []
@@ -322,9 +315,13 @@ IsLobbyLife {S} remaining contents players at_first (Enrolled later ∷ past) no
 IsLobbyLife {S} remaining contents players at_first (Noticed finding ∷ past) now =
     (before : Hall S) × IsLobbyLife remaining contents players at_first past before × Finds finding before now
 
--- that the players are others, and what is found that halts games, the newest first
-abbrev pub noticed_in : List Passing → List DeskInput
-noticed_in [] = []
-noticed_in (Enrolled players ∷ passed) = Renewed players ∷ noticed_in passed
-noticed_in (Noticed finding ∷ passed) = Found finding ∷ noticed_in passed
-noticed_in (_ ∷ passed) = noticed_in passed
+-- what passed at a lobby to whose hall this happened, the newest first: browsers and the server come within a turn
+abbrev pub passed_in : {S : Type 0} → List (Happening S) → List Passing
+passed_in [] = []
+passed_in (Came stream ∷ past) = passed_in past
+passed_in (Woke ∷ past) = Rested ∷ passed_in past
+passed_in (ServerCame stream ∷ past) = passed_in past
+passed_in (Filed path file before ∷ past) = Changed path file ∷ passed_in past
+passed_in (Relisted players ∷ past) = Enrolled players ∷ passed_in past
+passed_in (Learned finding ∷ past) = Noticed finding ∷ passed_in past
+passed_in (Turned turn ∷ past) = TurnAt turn.at ∷ passed_in past

@@ -1,6 +1,7 @@
 -- One turn of all that are connected.
 use Rattle.std.specs.Prelude.{ℕ, ◌≡◌, ◌≤◌, ◌⊎◌, ◌||◌, ◌&&◌, ◌+◌, ◌-◌, ◌^◌, ◌==◌, nat_le, nat_lt, min, Bool, true, false}
 use Rattle.std.specs.Prelude.{List, [], ◌∷◌, ◌++◌, Option, None, Some, is_some, length, if◌then◌else◌}
+use Rattle.std.specs.Prelude.{IfSome, IsSomeAnd}
 use Rattle.std.specs.declared.net.ip_addr.IpAddr.{IpAddr}
 use Rattle.std.specs.List.{AllZip}
 use Rattle.lobby_words.specs.declared.players.Player.{Player}
@@ -16,10 +17,12 @@ use Rattle.lobby_guests.specs.Origins.{IsPlain, IsFrom}
 use Rattle.lobby_guests.specs.Paces.{paid_by}
 use Rattle.lobby_guests.specs.Guests.{IsNewGuest, ComesFrom, AreAttended, AreDelivered, IsWritten, IsLookedAfter}
 use Rattle.lobby_guests.specs.Guests.{AreParted, has_waiting, earlier, first_due, LeavesOthers, LeavesStranger}
-use Rattle.lobby_guests.specs.Guests.{KnowsAsks}
+use Rattle.lobby_guests.specs.Guests.{KnowsAsks, IsAnswered, has_later}
 use Rattle.lobby_talk.specs.Held.{TakesIn, HandsOn, IsKept}
 use Rattle.lobby_loop.specs.Seating.{AreSeatedIf}
 use Rattle.lobby_loop.specs.declared.hall.Hall.{Hall}
+use Rattle.lobby_loop.specs.declared.lobby.Turned.{Turned}
+use Rattle.lobby_loop.specs.declared.lobby.Turned.TheVariants.{Worked, Idle}
 
 -- What the server says is taken, where it is there.
 abbrev pub HearsServer : {S : Type 0} → (S → Option (List ℕ)) → Option (Link S) → Option (Link S) → Talk → Talk → Type 0
@@ -202,6 +205,12 @@ pub record TakesAllIn {S : Type 0} (remaining : S → Option (List ℕ)) (at : �
   pub names : new.next_key ≡ old.next_key
   pub site : new.site ≡ old.site
 
+-- More of what may ask for much can be taken at once: who did so last was answered before anybody was heard.
+abbrev pub HasLong : {S : Type 0} → {remaining : S → Option (List ℕ)} → {at : ℕ} → {is_short : Bool}
+    → {old new : Hall S} → TakesAllIn remaining at is_short old new → Type 0
+HasLong {old = old} {new = new} takes =
+    IsAnswered takes.parted.desk old.rounds.asks.asker × (has_later new.rounds.asks.long ≡ true)
+
 -- What is to go is handed out at a moment: what the desk told is delivered, for which of all replays the one under way
 -- goes on by at most 16 plies, or one begins; and what is to go is written, to the server and to each browser, but in a
 -- short turn to none that acts for nobody; and the desk is told who is let go.
@@ -232,6 +241,11 @@ abbrev pub next_moment : {S : Type 0} → ℕ → Hall S → Option ℕ
 next_moment at hall =
     if length hall.guests.items == 0 then None
     else earlier (earlier (first_due at hall.guests.items) hall.rounds.asks.next_act) (Some hall.look_at)
+
+-- Where nothing was done it is not waited longer than until that moment.
+abbrev pub WaitsFor : {S : Type 0} → ℕ → Hall S → Turned → Type 0
+WaitsFor at hall Worked = Unit {0}
+WaitsFor at hall (Idle most) = IfSome (next_moment at hall) (λ moment. IsSomeAnd most (λ rest. rest ≤ moment - at))
 
 -- There is more to be done at once: an answer to `line G` is to be made, or to be told.
 abbrev pub has_more : {S : Type 0} → Hall S → Bool

@@ -10,7 +10,7 @@ ghost use Rattle.lobby_loop.specs.Doing.{Spot, Before, around, IsServed};
 ghost use Rattle.std.specs.List.{AllZip};
 ghost use Rattle.lobby_guests.specs.Guests.{StaysLost};
 ghost use Rattle.lobby_loop.specs.Turning.{HasTurned};
-ghost use Rattle.lobby_loop.specs.Living.{Happening, IsLife, IsRightLife, Passing, IsLobbyLife, learned_in, noticed_in};
+ghost use Rattle.lobby_loop.specs.Living.{Happening, IsLife, IsRightLife, Passing, IsLobbyLife, passed_in};
 ghost use Rattle.lobby_loop.specs.Speaking.{Speaks};
 
 /// Whatever browsers and a server come, say and leave, by streams that give and take what they like: the desk has taken
@@ -31,13 +31,13 @@ pub fn law_of_halls<S>()
 {}
 
 /// Whatever passes at a lobby, by its turns and the rests between them: all that happened to its hall is such a life,
-/// and what it was told of other players and of what halts games is what passed.
+/// of just these turns, at their moments, of these rests, files, players and findings, in their order.
 pub fn law_of_lobbies<S>()
     ensures { (remaining contents : S → Option (List ℕ)) (players : List Player) (at_first : Halted)
         (passed : List Passing)
         (now : Hall S) → IsLobbyLife remaining contents players at_first passed now →
         (past : List (Happening S)) × IsLife remaining contents players at_first past now
-        × (learned_in past ≡ noticed_in passed) × IsRightLife remaining contents players at_first past now }
+        × (passed_in past ≡ passed) × IsRightLife remaining contents players at_first past now }
 {}
 
 /// Of each browser of which such a life says what was done at its connection: the texts that the desk was told under

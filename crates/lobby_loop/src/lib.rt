@@ -22,4 +22,4 @@ pub use hall::Hall;
 pub use law::{law_of_browsers, law_of_halls, law_of_leaving, law_of_lobbies};
 pub use listener::{Acceptor, LobbyListener, Welcomed, welcome};
 pub use lobby::{Beginning, Lobby, Turned};
-pub use lobby_talk::{ACTS, BOUNDS, Counts, KeepsLinks, NoLinks, Roll};
+pub use lobby_talk::{ACTS, BOUNDS, Counts, KeepsLinks, Roll};

@@ -1,13 +1,13 @@
 //! The sockets of a lobby, and what wakes it.
 ghost use Rattle.std.specs.Prelude.{ℕ, ◌≡◌, ◌≤◌, true, false, List, [], None, Some, nat_lt};
-ghost use Rattle.std.specs.Prelude.{IfOk, OnOk, OnErr};
+ghost use Rattle.std.specs.Prelude.{IfOk, OnOk, OnErr, ◌⊎◌};
 ghost use Rattle.mio.specs.declared.net.stream.TcpStream.{TcpStream};
 ghost use Rattle.mio.specs.declared.net.uds.stream.UnixStream.{UnixStream};
 ghost use Rattle.either.specs.declared.Either.{Either};
-ghost use Rattle.lobby_guests.specs.Guests.{has_later, is_crowded};
+ghost use Rattle.lobby_guests.specs.Guests.{HearsNoPlayer, has_later, is_crowded};
 ghost use Rattle.either.specs.Either.{either};
 ghost use Rattle.lobby_loop.specs.Turning.{BeginsHall, Comer, AreAdmitted, IsReached, IsLobbyTurn, has_more, texts_put};
-ghost use Rattle.lobby_loop.specs.Turning.{unknown, short_after, left_at, held_after};
+ghost use Rattle.lobby_loop.specs.Turning.{unknown, short_after, left_at, held_after, HasLong, WaitsFor};
 ghost use Rattle.lobby_loop.specs.Living.{IsWoken, Files, KeepsFiles, Renews, Finds};
 ghost use Rattle.lobby_loop.specs.Comers.{seen, is_over};
 ghost use Rattle.lobby_loop.specs.Logging.{Logs};
@@ -350,8 +350,9 @@ impl Lobby {
         }
     }
 
-    // The moment behind this one at which there is something to do, though no socket is ready.
-    fn next_moment(&self, at: u64) -> Option<u64> {
+    // The moment at which there is something to do beside what those who are connected wait for: the server is called,
+    // or the listener asked, or a turn is no short one.
+    fn own_moment(&self) -> Option<u64> {
         let call = if self.hall.has_server() {
             None
         } else if self.call.is_some() {
@@ -369,18 +370,18 @@ impl Lobby {
         } else {
             None
         };
-        let moment = earlier(earlier(call, ask), others);
-        earlier(moment, self.hall.look_at(at))
+        earlier(earlier(call, ask), others)
     }
 
     // What came of a turn in which there was something to do, or nothing.
     fn turned(&self, has_worked: bool, at: u64) -> Turned
-        ensures { has_worked ≡ true → result ≡ Worked }
+        ensures worked { has_worked ≡ true → result ≡ Worked }
+        ensures idle { WaitsFor at self.now.hall result }
     {
         if has_worked {
             Turned::Worked
         } else {
-            let moment = self.next_moment(at);
+            let moment = earlier(self.own_moment(), self.hall.look_at(at));
             Turned::Idle(moment.map(|moment| moment.saturating_sub(at)))
         }
     }
@@ -394,16 +395,19 @@ impl Lobby {
         log: &mut L,
         links: &mut K,
     ) -> Result<Turned, Fault>
-        ensures turned { OnOk result ((turn : IsLobbyTurn (either unknown unknown)
+        ensures turned { IfOk result (λ turned. (turn : IsLobbyTurn (either unknown unknown)
             (either unknown unknown) at self.old.hall self.new.hall)
             × (turn.turns.is_short ≡ nat_lt at self.old.short_until)
             × Logs (L.logged log.old) (L.logged log.new) (texts_put turn.turns)
-            × IsToldLast (halted turn.turns.between.talk.desk.halts) (K.last_halts links.new)) }
+            × IsToldLast (halted turn.turns.between.talk.desk.halts) (K.last_halts links.new)
+            × (HasLong turn.turns.takes → turned ≡ Worked)
+            × ((turned ≡ Worked) ⊎ HearsNoPlayer turn.turns.takes.attends)) }
         ensures short { OnOk result (self.new.short_until ≡ short_after self.old.short_until at) }
         ensures held { OnOk result (self.new.held_until
             ≡ held_after self.old.held_until (is_crowded self.old.hall.guests.items) at) }
         ensures more { IfOk result (λ turned. has_more self.new.hall ≡ true → turned ≡ Worked) }
         ensures brief { IfOk result (λ turned. has_later self.new.hall.rounds.asks.brief ≡ true → turned ≡ Worked) }
+        ensures idle { IfOk result (λ turned. WaitsFor at self.new.hall turned) }
     {
         self.hold(at);
         let has_reached = self.reach_server(net, at)?;

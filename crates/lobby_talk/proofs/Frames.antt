@@ -1,12 +1,15 @@
 -- The letters that are read in front are those of the text that is in the frame there.
-use Rattle.std.proofs.Common.{ℕ, ◌≡◌, ◌≤◌, ◌+◌, ◌&&◌, eqb, Bool, true, false, List, [], ◌∷◌, ◌++◌, codes, length, take, refl, ap, sym, ◌∙◌, arith, bit_xor, inl, inr}
+use Rattle.std.proofs.Common.{ℕ, zero, suc, ◌≡◌, ◌≤◌, ◌<◌, ◌+◌, ◌&&◌, eqb, Bool, true, false, List, [], ◌∷◌, ◌++◌, codes, length, take, refl, ap, sym, ◌∙◌, arith, bit_xor, inl, inr}
 use Rattle.std.specs.Prelude.{nat_le}
-use Rattle.std.proofs.lemmas.Bool.{cases_Bool, eqb-false, le-leb, lt-ltb}
+use Rattle.std.proofs.Math.Nat.{min-le_left}
+use Rattle.std.proofs.lemmas.Bool.{cases_Bool, and_right, eqb-false, le-leb, lt-leb, lt-ltb}
 use Rattle.std.proofs.lemmas.Bool.Decides.{Decides-eqb}
+use Rattle.std.proofs.lemmas.List.{length-append, length-take}
 use lib.Bits.{xor_assoc, xor_self, xor_zero_r}
 use Rattle.websocket.specs.Mask.{mask_from}
 use Rattle.websocket.specs.FrameHeader.{encode_header}
-use Rattle.lobby_talk.specs.Front.{letters, is_short_text, asks_offers, is_hidden, begins, text_frame}
+use Rattle.websocket.proofs.MaskLemmas.{length-mask_from}
+use Rattle.lobby_talk.specs.Front.{letters, is_short_text, asks_offers, is_hidden, is_whole, begins, text_frame}
 
 -- what was masked is read under the same byte of the mask
 pub unmasked : (x k : ℕ) → bit_xor (bit_xor x k) k ≡ x
@@ -136,3 +139,59 @@ pub is_seen : (key text rest : List ℕ) → length text ≤ 125 → is_hidden (
 unfolding encode_header
 is_seen key text rest few =
     rw (lt-ltb (length text) 126 (omega arith)) (seen (length text) (key ++ mask_from key 0 text ++ rest) few)
+
+-- ---- and it is whole where all of it is there, and no sooner
+
+whole_laid : (n k0 k1 k2 k3 : ℕ) (behind : List ℕ) → n ≤ length behind → is_whole (laid n k0 k1 k2 k3 behind) ≡ true
+whole_laid n k0 k1 k2 k3 behind long =
+    rw (le-leb 2 (length (laid n k0 k1 k2 k3 behind)) (omega arith), le-leb (128 + n) (length (laid n k0 k1 k2 k3 behind) + 122) (omega (arith, long)))
+
+masked_length : (key text rest : List ℕ) → length text ≤ length (mask_from key 0 text ++ rest)
+masked_length key text rest =
+    omega (arith, length-append (mask_from key 0 text) rest, length-mask_from key 0 text)
+
+pub whole_are : (key text rest : List ℕ) → length key ≡ 4 → length text ≤ 125 →
+    is_whole (text_frame key text ++ rest) ≡ true
+whole_are (k0 ∷ k1 ∷ k2 ∷ k3 ∷ []) text rest is few =
+    ap is_whole (frame_laid k0 k1 k2 k3 text rest few)
+    ∙ whole_laid (length text) k0 k1 k2 k3 (mask_from (k0 ∷ k1 ∷ k2 ∷ k3 ∷ []) 0 text ++ rest)
+    (masked_length (k0 ∷ k1 ∷ k2 ∷ k3 ∷ []) text rest)
+whole_are [] text rest is few = absurd (omega arith)
+whole_are (k0 ∷ []) text rest is few = absurd (omega arith)
+whole_are (k0 ∷ k1 ∷ []) text rest is few = absurd (omega arith)
+whole_are (k0 ∷ k1 ∷ k2 ∷ []) text rest is few = absurd (omega arith)
+whole_are (k0 ∷ k1 ∷ k2 ∷ k3 ∷ k4 ∷ key) text rest is few = absurd (omega arith)
+
+frame_alone : (k0 k1 k2 k3 : ℕ) (text : List ℕ) → length text ≤ 125 →
+    text_frame (k0 ∷ k1 ∷ k2 ∷ k3 ∷ []) text
+    ≡ laid (length text) k0 k1 k2 k3 (mask_from (k0 ∷ k1 ∷ k2 ∷ k3 ∷ []) 0 text)
+unfolding encode_header
+frame_alone k0 k1 k2 k3 text few = rw (lt-ltb (length text) 126 (omega arith))
+
+cut_short : (n more : ℕ) (bytes : List ℕ) → suc (suc more) < 6 + n →
+    length (129 ∷ (128 + n) ∷ take more bytes) + 122 < 128 + n
+cut_short n more bytes less = omega (arith, less, length-take more bytes, min-le_left more (length bytes))
+
+cut_laid : (n k0 k1 k2 k3 : ℕ) (behind : List ℕ) (count : ℕ) → count < 6 + n →
+    is_whole (take count (laid n k0 k1 k2 k3 behind)) ≡ false
+cut_laid n k0 k1 k2 k3 behind zero less = refl
+cut_laid n k0 k1 k2 k3 behind (suc zero) less = refl
+cut_laid n k0 k1 k2 k3 behind (suc (suc more)) less =
+    let rest : List ℕ = k0 ∷ k1 ∷ k2 ∷ k3 ∷ behind in
+    let bytes : List ℕ = 129 ∷ (128 + n) ∷ take more rest in
+    and_right (nat_le 2 (length bytes)) (nat_le (128 + n) (length bytes + 122))
+    (lt-leb (128 + n) (length bytes + 122) (cut_short n more rest less))
+
+pub cut_are : (key text : List ℕ) (count : ℕ) → length key ≡ 4 → length text ≤ 125 →
+    count < length (text_frame key text) → is_whole (take count (text_frame key text)) ≡ false
+cut_are (k0 ∷ k1 ∷ k2 ∷ k3 ∷ []) text count is few less =
+    let key : List ℕ = k0 ∷ k1 ∷ k2 ∷ k3 ∷ [] in
+    let alone = frame_alone k0 k1 k2 k3 text few in
+    ap (λ (bytes : List ℕ). is_whole (take count bytes)) alone
+    ∙ cut_laid (length text) k0 k1 k2 k3 (mask_from key 0 text) count
+    (omega (arith, less, ap (λ (bytes : List ℕ). length bytes) alone, length-mask_from key 0 text))
+cut_are [] text count is few less = absurd (omega arith)
+cut_are (k0 ∷ []) text count is few less = absurd (omega arith)
+cut_are (k0 ∷ k1 ∷ []) text count is few less = absurd (omega arith)
+cut_are (k0 ∷ k1 ∷ k2 ∷ []) text count is few less = absurd (omega arith)
+cut_are (k0 ∷ k1 ∷ k2 ∷ k3 ∷ k4 ∷ key) text count is few less = absurd (omega arith)

@@ -1,5 +1,5 @@
 -- A text with the first word of an act begins as one.
-use Rattle.std.proofs.Common.{ℕ, suc, ◌≡◌, ◌≤◌, ◌<◌, ◌+◌, ◌⊎◌, ◌||◌, ◌==◌, inl, inr, Bool, true, false, List, [], ◌∷◌, ◌++◌, codes, length, take, refl, ap, sym, ◌∙◌, subst, arith, if◌then◌else◌}
+use Rattle.std.proofs.Common.{ℕ, suc, ◌≡◌, ◌≤◌, ◌<◌, ◌+◌, ◌⊎◌, ◌||◌, ◌==◌, inl, inr, Bool, true, false, List, [], ◌∷◌, ◌++◌, codes, length, take, refl, ap, sym, ◌∙◌, subst, append_assoc, arith, if◌then◌else◌}
 use Rattle.std.specs.List.{position_or_len, AllByRecursion}
 use Rattle.std.specs.Str.{bytes_eq}
 use Rattle.std.proofs.lemmas.Bool.{cases_Bool, false≢true}
@@ -236,160 +236,40 @@ begins_as_act text =
 
 -- ---- a text with another first word does not
 
--- a test of the first five letters is false of a text with this first word
+-- a test of the first five letters is false of this word, whatever stands behind it
 abbrev IsNotFront : (List ℕ → Bool) → List ℕ → Type 0
-IsNotFront test w = (test (take 5 w) ≡ false) × ((rest : List ℕ) → test (take 5 (w ++ 32 ∷ rest)) ≡ false)
+IsNotFront test w = (rest : List ℕ) → test (take 5 (w ++ rest)) ≡ false
 
-not_begun : (test : List ℕ → Bool) (text w : List ℕ) → bytes_eq (word_of text) w ≡ true → IsNotFront test w → test (take 5 text) ≡ false
-not_begun test text w is none =
+not_begun : (test : List ℕ → Bool) (text w rest : List ℕ) → bytes_eq (word_of text) w ≡ true → IsNotFront test w →
+    test (take 5 (text ++ rest)) ≡ false
+not_begun test text w rest is none =
     elim (word_text text w ((bytes_eq-Decides (word_of text) w).0 is)) [
-      | inl same ↦ subst (λ (l : List ℕ). test (take 5 l) ≡ false) (sym same) none.0
-      | inr behind ↦ subst (λ (l : List ℕ). test (take 5 l) ≡ false) (sym behind.1) (none.1 behind.0)
+      | inl same ↦ subst (λ (l : List ℕ). test (take 5 (l ++ rest)) ≡ false) (sym same) (none rest)
+      | inr behind ↦ subst (λ (l : List ℕ). test (take 5 (l ++ rest)) ≡ false) (sym behind.1)
+          (subst (λ (l : List ℕ). test (take 5 l) ≡ false) (sym (append_assoc w (32 ∷ behind.0) rest))
+          (none ((32 ∷ behind.0) ++ rest)))
     ]
 
-none_begun : (test : List ℕ → Bool) (text : List ℕ) (words : List (List ℕ)) → AllByRecursion (IsNotFront test) words →
-    has_word words text ≡ true → test (take 5 text) ≡ false
-none_begun test text [] none is = absurd (false≢true is)
-none_begun test text (w ∷ words) none is =
+none_begun : (test : List ℕ → Bool) (text rest : List ℕ) (words : List (List ℕ)) →
+    AllByRecursion (IsNotFront test) words → has_word words text ≡ true → test (take 5 (text ++ rest)) ≡ false
+none_begun test text rest [] none is = absurd (false≢true is)
+none_begun test text rest (w ∷ words) none is =
     elim (or_either (bytes_eq (word_of text) w) (has_word words text) is) [
-      | inl this ↦ not_begun test text w this none.0
-      | inr other ↦ none_begun test text words none.1 other
+      | inl this ↦ not_begun test text w rest this none.0
+      | inr other ↦ none_begun test text rest words none.1 other
     ]
 
 no_acts : AllByRecursion (IsNotFront is_act) (brief_words ++ long_words)
 unfolding is_act
-no_acts = (
-  (refl, λ rest. refl),
-  (
-    (refl, λ rest. refl),
-    (
-      (refl, λ rest. refl),
-      (
-        (refl, λ rest. refl),
-        (
-          (
-            refl,
-            λ rest.
-                refl,
-          ),
-          (
-            (refl, λ rest. refl),
-            (
-              (refl, λ rest. refl),
-              (
-                (refl, λ rest. refl),
-                (
-                  (refl, λ rest. refl),
-                  (
-                    (
-                      refl,
-                      λ
-                          rest. refl,
-                    ),
-                    (
-                      (refl, λ rest. refl),
-                      (
-                        (refl, λ rest. refl),
-                        (
-                          (refl, λ rest. refl),
-                          (
-                            (refl, λ rest. refl),
-                            (
-                              (
-                                refl,
-                                λ rest. refl,
-                              ),
-                              (
-                                (refl, λ rest. refl),
-                                (
-                                  (refl, λ rest. refl),
-                                  (
-                                    (refl, λ rest. refl),
-                                    (
-                                      (refl, λ rest. refl),
-                                      ((refl, λ rest. refl), ((refl, λ rest. refl), tt)),
-                                    ),
-                                  ),
-                                ),
-                              ),
-                            ),
-                          ),
-                        ),
-                      ),
-                    ),
-                  ),
-                ),
-              ),
-            ),
-          ),
-        ),
-      ),
-    ),
-  ),
-)
+no_acts = (λ rest. refl, (λ rest. refl, (λ rest. refl, (λ rest. refl, (λ rest. refl, (λ rest. refl, (λ rest. refl, (λ rest. refl, (λ rest. refl, (λ rest. refl, (λ rest. refl, (λ rest. refl, (λ rest. refl, (λ rest. refl, (λ rest. refl, (λ rest. refl, (λ rest. refl, (λ rest. refl, (λ rest. refl, (λ rest. refl, (λ rest. refl, tt)))))))))))))))))))))
 
 none_brief : AllByRecursion (IsNotFront is_brief) long_words
 unfolding is_brief
-none_brief = (
-  (refl, λ rest. refl),
-  (
-    (refl, λ rest. refl),
-    (
-      (refl, λ rest. refl),
-      (
-        (refl, λ rest. refl),
-        (
-          (
-            refl,
-            λ rest.
-                refl,
-          ),
-          (
-            (refl, λ rest. refl),
-            (
-              (refl, λ rest. refl),
-              (
-                (refl, λ rest. refl),
-                (
-                  (refl, λ rest. refl),
-                  (
-                    (
-                      refl,
-                      λ
-                          rest. refl,
-                    ),
-                    (
-                      (refl, λ rest. refl),
-                      (
-                        (refl, λ rest. refl),
-                        (
-                          (refl, λ rest. refl),
-                          (
-                            (refl, λ rest. refl),
-                            (
-                              (
-                                refl,
-                                λ rest. refl,
-                              ),
-                              tt,
-                            ),
-                          ),
-                        ),
-                      ),
-                    ),
-                  ),
-                ),
-              ),
-            ),
-          ),
-        ),
-      ),
-    ),
-  ),
-)
+none_brief = (λ rest. refl, (λ rest. refl, (λ rest. refl, (λ rest. refl, (λ rest. refl, (λ rest. refl, (λ rest. refl, (λ rest. refl, (λ rest. refl, (λ rest. refl, (λ rest. refl, (λ rest. refl, (λ rest. refl, (λ rest. refl, (λ rest. refl, tt)))))))))))))))
 
-pub begins_as_none : (text : List ℕ) → has_word (brief_words ++ long_words) text ≡ true → is_act (take 5 text) ≡ false
-begins_as_none text is = none_begun is_act text (brief_words ++ long_words) no_acts is
+pub begins_as_none : (text rest : List ℕ) → has_word (brief_words ++ long_words) text ≡ true →
+    is_act (take 5 (text ++ rest)) ≡ false
+begins_as_none text rest is = none_begun is_act text rest (brief_words ++ long_words) no_acts is
 
-pub begins_not_brief : (text : List ℕ) → has_word long_words text ≡ true → is_brief (take 5 text) ≡ false
-begins_not_brief text is = none_begun is_brief text long_words none_brief is
+pub begins_not_brief : (text rest : List ℕ) → has_word long_words text ≡ true → is_brief (take 5 (text ++ rest)) ≡ false
+begins_not_brief text rest is = none_begun is_brief text rest long_words none_brief is

@@ -5,6 +5,7 @@ use Rattle.text_pgn.specs.Answer.{IsLineAnswer}
 use Rattle.text_pgn.specs.Replaying.{IsWhole}
 use Rattle.lobby_talk.specs.Making.{IsOfLine, lines_behind}
 use Rattle.lobby_talk.specs.Replays.{IsNumberIn}
+use Rattle.lobby_talk.specs.Keeping.{HasNone}
 use Rattle.lobby_talk.specs.Replaying.{GoesOn, BeginsOf, IsSet, Replays}
 use Rattle.lobby_talk.specs.declared.kept_answer.KeptAnswer.{KeptAnswer}
 use Rattle.lobby_talk.specs.declared.under_way.UnderWay.{UnderWay}
@@ -43,10 +44,10 @@ set_goes kept next old (Whole one) replay answer (none, is) goes =
 -- what begins is under way then, or is the answer
 pub set_begins : (kept : List KeptAnswer) (text : List ℕ) (going : Going) (replay : Option UnderWay)
     (answer : Option KeptAnswer) →
-    IsSet going replay answer → BeginsOf text going → Replays kept (Some text) None replay answer
-set_begins kept text (More new) replay answer (is, none) begins =
+    IsSet going replay answer → HasNone kept text → BeginsOf text going → Replays kept (Some text) None replay answer
+set_begins kept text (More new) replay answer (is, none) none_yet begins =
     subst (λ (r : Option UnderWay). Replays kept (Some text) None r answer) (sym is)
-    (subst (λ (a : Option KeptAnswer). Replays kept (Some text) None (Some new) a) (sym none) begins)
-set_begins kept text (Whole one) replay answer (none, is) begins =
+    (subst (λ (a : Option KeptAnswer). Replays kept (Some text) None (Some new) a) (sym none) (none_yet, begins))
+set_begins kept text (Whole one) replay answer (none, is) none_yet begins =
     subst (λ (r : Option UnderWay). Replays kept (Some text) None r answer) (sym none)
-    (subst (λ (a : Option KeptAnswer). Replays kept (Some text) None None a) (sym is) (inr begins))
+    (subst (λ (a : Option KeptAnswer). Replays kept (Some text) None None a) (sym is) (inr (none_yet, begins)))

@@ -1,5 +1,5 @@
 -- What stands in front of what came of a browser's socket.
-use Rattle.std.specs.Prelude.{ℕ, Bool, List, [], ◌∷◌, ◌==◌, ◌&&◌, ◌||◌, if◌then◌else◌, nat_le, eqb, codes, bit_xor}
+use Rattle.std.specs.Prelude.{ℕ, Bool, List, [], ◌∷◌, ◌==◌, ◌&&◌, ◌||◌, ◌+◌, if◌then◌else◌, nat_le, eqb, codes, bit_xor}
 use Rattle.std.specs.Prelude.{length, slice_index, not, Some}
 use Rattle.std.specs.List.{starts_with, list_any}
 use Rattle.std.specs.Str.{bytes_eq}
@@ -90,6 +90,11 @@ has_brief unread = is_brief (letters unread) || asks_offers unread
 abbrev pub is_hidden : List ℕ → Bool
 is_hidden unread = nat_le 2 (length unread) && not (is_short_text (slice_index unread 0) (slice_index unread 1))
 
--- whether an act may stand in front
+-- Whether the frame of such a text is there to its end: a head of two bytes, a mask of four, and the text, of so many
+-- bytes as the second byte has beyond 128.
+abbrev pub is_whole : List ℕ → Bool
+is_whole unread = nat_le 2 (length unread) && nat_le (slice_index unread 1) (length unread + 122)
+
+-- whether an act may stand in front, whole
 abbrev pub may_be_act : List ℕ → Bool
-may_be_act unread = has_act unread || is_hidden unread
+may_be_act unread = (has_act unread && is_whole unread) || is_hidden unread

@@ -1,5 +1,6 @@
 -- The answers to `line G` that are kept.
-use Rattle.std.specs.Prelude.{ℕ, ◌≡◌, ◌⊎◌, ◌≤◌, ◌+◌, ◌-◌, ◌^◌, List, [], ◌∷◌, length, min}
+use Rattle.std.specs.Prelude.{ℕ, ◌≡◌, ◌==◌, ◌⊎◌, ◌≤◌, ◌+◌, ◌-◌, ◌^◌, List, [], ◌∷◌, ◌++◌, length, min, filter, not, nat_le}
+use Rattle.std.specs.Prelude.{Option, None, Some, if◌then◌else◌}
 use Rattle.std.specs.List.{sum_by}
 use Rattle.std.specs.String.{string_bytes}
 use Rattle.lobby_talk.specs.declared.kept_answer.KeptAnswer.{KeptAnswer}
@@ -38,13 +39,36 @@ HasKept [] text answer = ⊥
 HasKept (one ∷ ones) text answer =
     (string_bytes one.pgn ≡ text) × (string_bytes one.answer ≡ answer) ⊎ HasKept ones text answer
 
--- One that was made is among them, where it alone does not take more bytes than are kept.
-abbrev pub IsPut : KeptAnswer → List KeptAnswer → Type 0
-IsPut one answers = size_of one ≤ kept_most → HasKept answers (string_bytes one.pgn) (string_bytes one.answer)
+-- None of this text is.
+abbrev pub HasNone : List KeptAnswer → List ℕ → Type 0
+HasNone answers text = (answer : List ℕ) → ¬ HasKept answers text answer
 
--- No answer to `line G` is made but by these.
+-- the answers of all games but one
+abbrev pub of_others : ℕ → List KeptAnswer → List KeptAnswer
+of_others game answers = filter (λ (kept : KeptAnswer). not (kept.game == game)) answers
+
+-- Of these answers, the oldest of which is the first, the newest: as many as have so many bytes at most.
+abbrev pub newest : ℕ → List KeptAnswer → List KeptAnswer
+newest most [] = []
+newest most (one ∷ ones) =
+    if nat_le (size_of_all (one ∷ ones)) most then one ∷ ones else newest most ones
+
+-- One that was made stands behind those of the other games, of which just the oldest go that leave it no room. One that
+-- alone takes more bytes than are kept is not kept.
+abbrev pub IsPut : KeptAnswer → List KeptAnswer → List KeptAnswer → Type 0
+IsPut one old new =
+    new ≡ (if nat_le (size_of one) kept_most
+    then newest (kept_most - size_of one) (of_others one.game old) ++ one ∷ []
+    else newest kept_most (of_others one.game old))
+
+-- What is kept behind an answer, where one was made.
+abbrev pub IsPutIf : Option KeptAnswer → List KeptAnswer → List KeptAnswer → Type 0
+IsPutIf None old new = new ≡ old
+IsPutIf (Some one) old new = IsPut one old new
+
+-- Each answer to `line G` that is one of these is made by it, and no other is.
 abbrev pub IsOfKept : List KeptAnswer → Kind → List ℕ → Kind → List ℕ → Type 0
-IsOfKept kept Line text Line new = Unit {0}
+IsOfKept kept Line text Line new = HasNone kept text
 IsOfKept kept Line text Whole new = HasKept kept text new
 IsOfKept kept Line text AtPosition new = HasKept kept text new
 IsOfKept kept Line text Moves new = HasKept kept text new
@@ -55,7 +79,7 @@ IsOfKept kept Moves text other new = Unit {0}
 IsOfKept kept Log text other new = Unit {0}
 
 -- A message, as it goes out, or as it waits for its answer: to the same connections, and where it is an answer to
--- `line G` by one of these, which were made before.
+-- `line G` by one of these, which were made before; it waits just where none of them is its answer.
 pub record IsMadeOf (kept : List KeptAnswer) (told made : Message) : Type 0 where
   pub to : made.to ≡ told.to
   pub text : IsMade told.kind (string_bytes told.text) made.kind (string_bytes made.text)

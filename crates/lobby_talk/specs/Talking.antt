@@ -43,11 +43,12 @@ StepsAt old event before after new =
     Steps old.desk event before after (message_values old.told.items) (message_values new.told.items) new.desk
 
 -- The desk takes this event: the lines for it stand behind what is to go to the server, and the messages for it behind
--- those that are to go to connections. The replay that is under way stays.
+-- those that are to go to connections. The replay that is under way stays, and all answers that are kept do.
 pub record Moves (old : Talk) (event : DeskInput) (new : Talk) : Type 0 where
   pub steps : StepsAt old event old.wire.items new.wire.items new
   pub next : new.next ≡ old.next
   pub replay : new.replay ≡ old.replay
+  pub kept : new.kept ≡ old.kept
 
 -- A connection comes, and has a number that none had before.
 pub record Opens (old : Talk) (c : ℕ) (new : Talk) : Type 0 where
@@ -55,6 +56,7 @@ pub record Opens (old : Talk) (c : ℕ) (new : Talk) : Type 0 where
   pub fresh : old.next ≤ c
   pub next : new.next ≡ c + 1
   pub replay : new.replay ≡ old.replay
+  pub kept : new.kept ≡ old.kept
 
 -- The desk takes this event, and nothing is to go to the server: what was to go there is not sent.
 pub record MovesAnew (old : Talk) (event : DeskInput) (new : Talk) : Type 0 where
@@ -62,6 +64,7 @@ pub record MovesAnew (old : Talk) (event : DeskInput) (new : Talk) : Type 0 wher
   pub nothing : new.wire.items ≡ []
   pub next : new.next ≡ old.next
   pub replay : new.replay ≡ old.replay
+  pub kept : new.kept ≡ old.kept
 
 -- How the desk takes a message: it came in time, at this moment; or too fast; or it asked for a player's link, or a
 -- player more, for which the players' file has these players and this token was made.

@@ -4,7 +4,7 @@ ghost use Rattle.std.specs.Str.{bytes_eq};
 ghost use Rattle.lobby_words.specs.Words.{word_of, sort_of};
 ghost use Rattle.lobby_words.specs.declared.words.Sort.TheVariants.{Nothing};
 ghost use Rattle.lobby_talk.specs.Front.{is_act, is_brief, is_short_text, letter_at, has_letters, letters};
-ghost use Rattle.lobby_talk.specs.Front.{has_act, has_brief, asks_offers, is_hidden, may_be_act, is_hasty_word};
+ghost use Rattle.lobby_talk.specs.Front.{has_act, has_brief, asks_offers, is_hidden, is_whole, may_be_act, is_hasty_word};
 ghost use Rattle.lobby_talk.specs.Front.{begins, brief_words, long_words, has_word, text_frame};
 
 /// The first byte of a frame that is a whole text message, and the least and the most that the second one has where a
@@ -14,6 +14,10 @@ const TEXT: u8 = 129;
 const SHORT_LEAST: u8 = 128;
 
 const SHORT_MOST: u8 = 253;
+
+/// The second byte is so much more than the length of the whole frame: the text has so many bytes as that is beyond the
+/// least, and the head and the mask have six.
+const TO_END: usize = 122;
 
 /// The least second byte where the text has six letters.
 const SIX_LETTERS: u8 = SHORT_LEAST + 6;
@@ -127,24 +131,33 @@ fn is_hidden(unread: &[u8]) -> bool
     unread.len() >= 2 && !is_short_text(unread[0], unread[1])
 }
 
-/// Whether an act may stand in front of what came: one does, or a frame of which that is not seen, as one by which it
-/// comes in pieces.
+// Whether such a frame is there to its end.
+fn is_whole(unread: &[u8]) -> bool
+    ensures { result ≡ is_whole unread.now }
+{
+    unread.len() >= 2 && usize::from(unread[1]) <= unread.len() + TO_END
+}
+
+/// Whether an act may stand in front of what came: one does, whole, or a frame of which that is not seen, as one by
+/// which it comes in frames of its own.
 pub fn may_be_act(unread: &[u8]) -> bool
     ensures { result ≡ may_be_act unread.now }
 {
-    has_act(unread) || is_hidden(unread)
+    (has_act(unread) && is_whole(unread)) || is_hidden(unread)
 }
 
 /// Whatever the first word of an act, of a pairing, of what is offered or of a login is: a text of five letters or more
 /// with it begins as an act does, so nothing of these but `offers` is put off as a question; and none with another
-/// message's word does. Nor does one that may ask for much begin as `has_brief` has it, and each that asks for little does. There
-/// are no other words by which a message asks for something, but `name`, which is the server's own and refused.
+/// message's word does, whatever stands behind it. Nor does one that may ask for much begin as `has_brief` has it, and
+/// each that asks for little does. There are no other words by which a message asks for something, but `name`, which is
+/// the server's own and refused.
 pub fn law_of_fronts()
     ensures hasty { (text : List ℕ) → is_hasty_word (word_of text) ≡ true → 5 ≤ length text →
         is_act (take 5 text) ≡ true }
-    ensures others { (text : List ℕ) → has_word (brief_words ++ long_words) text ≡ true →
-        is_act (take 5 text) ≡ false }
-    ensures long { (text : List ℕ) → has_word long_words text ≡ true → is_brief (take 5 text) ≡ false }
+    ensures others { (text rest : List ℕ) → has_word (brief_words ++ long_words) text ≡ true →
+        is_act (take 5 (text ++ rest)) ≡ false }
+    ensures long { (text rest : List ℕ) → has_word long_words text ≡ true →
+        is_brief (take 5 (text ++ rest)) ≡ false }
     ensures brief { (text : List ℕ) → has_word brief_words text ≡ true → 5 ≤ length text →
         is_brief (take 5 text) ≡ true }
     ensures known { (text : List ℕ) → sort_of text ≢ Nothing → bytes_eq (word_of text) (codes "name") ≡ false →
@@ -153,7 +166,7 @@ pub fn law_of_fronts()
 
 /// Where a text message of 5 to 125 bytes stands in front, in one masked frame (RFC 6455, 5.2, as `websocket` writes
 /// it), the first letters that are read are its own, and it asks what is offered just where it begins so, whatever
-/// stands behind it.
+/// stands behind it. It is whole where all of the frame is there, and no sooner.
 pub fn law_of_letters()
     ensures letters { (key text rest : List ℕ) → length key ≡ 4 → 5 ≤ length text → length text ≤ 125 →
         letters (text_frame key text ++ rest) ≡ take 5 text }
@@ -161,4 +174,8 @@ pub fn law_of_letters()
         asks_offers (text_frame key text ++ rest) ≡ begins text (codes "offers") }
     ensures shown { (key text rest : List ℕ) → length text ≤ 125 →
         is_hidden (text_frame key text ++ rest) ≡ false }
+    ensures whole { (key text rest : List ℕ) → length key ≡ 4 → length text ≤ 125 →
+        is_whole (text_frame key text ++ rest) ≡ true }
+    ensures cut { (key text : List ℕ) (count : ℕ) → length key ≡ 4 → length text ≤ 125 →
+        count < length (text_frame key text) → is_whole (take count (text_frame key text)) ≡ false }
 {}

@@ -1,8 +1,10 @@
 //! The answers to `line G` that were made, as long as the server tells the same PGN: each is made once.
-ghost use Rattle.std.specs.Prelude.{◌≡◌, ◌≤◌, ◌+◌, IfSome, [], IfOk, OnOk};
+ghost use Rattle.std.specs.Prelude.{◌≡◌, ◌≤◌, ◌+◌, IfSome, IfNone, [], IfOk, OnOk};
 ghost use Rattle.std.specs.String.{string_bytes};
-ghost use Rattle.lobby_talk.specs.Keeping.{size_of_all, kept_most, shown, HasKept, IsPut};
+ghost use Rattle.lobby_talk.specs.Keeping.{size_of_all, kept_most, shown, HasKept, HasNone, IsPut};
+ghost use Rattle.lobby_talk.specs.Keeping.{newest, of_others};
 ghost use Rattle.lobby_talk.specs.Replaying.{IsCopied};
+ghost use Rattle.lobby_talk.specs.Replays.{IsNumberIn};
 
 use crate::kept_answer::KeptAnswer;
 use std::alloc::{AllocError, Global};
@@ -32,21 +34,28 @@ fn size_of_all(answers: &[KeptAnswer]) -> usize
 // The oldest go where there are more bytes than these.
 fn let_go_beyond(answers: &mut Vec<KeptAnswer>, most: usize)
     requires { most ≤ kept_most }
-    ensures { size_of_all answers.new.items ≤ most }
+    ensures within { size_of_all answers.new.items ≤ most }
+    ensures newest { answers.new.items ≡ newest most answers.old.items }
 {
-    while !answers.is_empty() && size_of_all(answers.as_slice()) > most {
+    while size_of_all(answers.as_slice()) > most {
         answers.remove(0);
     }
+}
+
+// That of a game goes.
+fn take_off(answers: &mut Vec<KeptAnswer>, game: u32)
+    ensures { answers.new.items ≡ of_others game answers.old.items }
+{
+    answers.retain(|kept| kept.game != game);
 }
 
 // Puts one of a game in the place of the one that there was of it, behind the others, of which the oldest go where
 // there are too many bytes. One that alone has too many is not kept.
 fn put(answers: &mut Vec<KeptAnswer>, one: KeptAnswer) -> Result<(), AllocError>
     ensures within { size_of_all answers.new.items ≤ kept_most }
-    ensures keeps { OnOk result (IsPut one answers.new.items) }
+    ensures keeps { OnOk result (IsPut one answers.old.items answers.new.items) }
 {
-    let game = one.game;
-    answers.retain(|kept| kept.game != game);
+    take_off(answers, one.game);
     match KEPT_MOST.checked_sub(one.size()) {
         None => {
             let_go_beyond(answers, KEPT_MOST);
@@ -69,21 +78,24 @@ impl KeptAnswers {
         }
     }
 
-    /// The answer that was made of this PGN, if it is kept.
+    /// The answer that was made of this PGN, just where it is kept.
     pub fn find(&self, pgn: &str) -> Option<&str>
-        ensures { IfSome result (λ answer. HasKept self.now.answers.items pgn.now answer.now) }
+        ensures some { IfSome result (λ answer. HasKept self.now.answers.items pgn.now answer.now) }
+        ensures none { IfNone result (HasNone self.now.answers.items pgn.now) }
     {
         for one in &self.answers {
-            if let Some(answer) = one.answer_of(pgn) {
-                return Some(answer);
+            if one.is_of(pgn) {
+                return Some(one.answer());
             }
         }
         None
     }
 
-    /// The answer that was made of this PGN, if it is kept, in memory of its own.
+    /// The answer that was made of this PGN, just where it is kept, in memory of its own.
     pub fn copy_of(&self, game: u32, pgn: &str) -> Result<Option<KeptAnswer>, AllocError>
-        ensures { IfOk result (λ found. IfSome found (IsCopied self.now.answers.items pgn.now)) }
+        requires { IsNumberIn pgn.now game }
+        ensures some { IfOk result (λ found. IfSome found (IsCopied self.now.answers.items pgn.now)) }
+        ensures none { IfOk result (λ found. IfNone found (HasNone self.now.answers.items pgn.now)) }
     {
         let Some(answer) = self.find(pgn) else {
             return Ok(None);
@@ -96,7 +108,7 @@ impl KeptAnswers {
     /// Keeps an answer, in the place of the one that was kept of its game. The oldest go where there are too many
     /// bytes.
     pub fn keep(&mut self, one: KeptAnswer) -> Result<(), AllocError>
-        ensures { OnOk result (IsPut one self.new.answers.items) }
+        ensures { OnOk result (IsPut one self.old.answers.items self.new.answers.items) }
     {
         put(&mut self.answers, one)
     }

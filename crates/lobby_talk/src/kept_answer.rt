@@ -1,29 +1,32 @@
 //! One answer to `line G` that was made.
-ghost use Rattle.std.specs.Prelude.{IfSome};
 ghost use Rattle.std.specs.String.{string_bytes};
 ghost use Rattle.lobby_talk.specs.Making.{IsOfLine};
+ghost use Rattle.lobby_talk.specs.Replays.{IsNumberIn};
 
 use std::alloc::{AllocError, Global};
 
 /// An answer, and the server's answer to `pgn G` of which it was made.
 #[derive(Drop)]
 pub struct KeptAnswer {
-    /// The number of its game.
+    /// The number of its game, as its PGN has it.
     pub(crate) game: u32,
     pgn: String,
     answer: String,
     pub ghost made: { ∥ IsOfLine (string_bytes pgn) (string_bytes answer) ∥₁ },
+    pub ghost named: { ∥ IsNumberIn (string_bytes pgn) game ∥₁ },
 }
 
 impl KeptAnswer {
     ghost use Rattle.std.specs.Prelude.{◌≡◌, IfOk};
+    ghost use Rattle.std.specs.Str.{bytes_eq};
     ghost use Rattle.text_pgn.specs.Game.{TellsNone};
     ghost use Rattle.lobby_talk.specs.Making.{lines_behind};
     ghost use Rattle.lobby_talk.specs.Keeping.{size_of, shown};
 
     /// The answer that was made of this PGN of a game.
     pub fn new(game: u32, pgn: String, answer: String) -> KeptAnswer
-        requires { ∥ IsOfLine (string_bytes pgn) (string_bytes answer) ∥₁ }
+        requires made { ∥ IsOfLine (string_bytes pgn) (string_bytes answer) ∥₁ }
+        requires named { ∥ IsNumberIn (string_bytes pgn) game ∥₁ }
         ensures pgn { result.pgn ≡ pgn }
         ensures answer { result.answer ≡ answer }
     {
@@ -32,7 +35,8 @@ impl KeptAnswer {
 
     /// The answer `lost`, of a PGN that tells no game. It fails where memory is refused.
     pub fn lost(alloc: Global, game: u32, pgn: String) -> Result<KeptAnswer, AllocError>
-        requires { TellsNone (lines_behind (string_bytes pgn)) }
+        requires none { TellsNone (lines_behind (string_bytes pgn)) }
+        requires named { ∥ IsNumberIn (string_bytes pgn) game ∥₁ }
         ensures { IfOk result (λ answer. answer.pgn ≡ pgn) }
     {
         let answer = String::from_str(alloc, "lost\n")?;
@@ -60,15 +64,10 @@ impl KeptAnswer {
         self.pgn.len().saturating_add(self.answer.len())
     }
 
-    /// The answer, where it is of this PGN.
-    pub fn answer_of(&self, pgn: &str) -> Option<&str>
-        ensures { IfSome result (λ answer. (string_bytes self.now.pgn ≡ pgn.now)
-            × (string_bytes self.now.answer ≡ answer.now)) }
+    /// Whether it was made of this PGN.
+    pub fn is_of(&self, pgn: &str) -> bool
+        ensures { result ≡ bytes_eq (string_bytes self.now.pgn) pgn.now }
     {
-        if self.pgn.as_str() == pgn {
-            Some(self.answer.as_str())
-        } else {
-            None
-        }
+        self.pgn.as_str() == pgn
     }
 }

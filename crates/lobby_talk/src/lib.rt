@@ -31,7 +31,7 @@ pub use counts::{
 pub use front::{has_act, has_brief, law_of_fronts, law_of_letters, may_be_act};
 pub use kept_answer::KeptAnswer;
 pub use link::Link;
-pub use links::{KeepsLinks, NoLinks};
+pub use links::KeepsLinks;
 pub use pieces::{Gone, PIECE_ROOM, write_piece};
 pub use roll::Roll;
 pub use said::say_to_desk;

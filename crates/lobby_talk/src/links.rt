@@ -44,21 +44,3 @@ pub trait KeepsLinks {
         ensures changed { changed self.new ≡ changed self.old }
         ensures kept { OnOk result (IsToldLast (halted halts.now) (last_halts self.new)) };
 }
-
-/// No file: no link is changed, nobody added, nothing is decided, and nothing is kept.
-#[derive(Clone, Copy)]
-pub struct NoLinks;
-
-impl KeepsLinks for NoLinks {
-    fn change(&mut self, _order: &Order, _full_name: &str, _players: &[Player]) -> Option<Linked> {
-        None
-    }
-
-    fn decide(&mut self, _arbiter: &str, _text: &str, _players: &[Player]) -> bool {
-        false
-    }
-
-    fn keep(&mut self, _halts: &Halts) -> io::Result<()> {
-        Ok(())
-    }
-}

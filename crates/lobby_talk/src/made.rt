@@ -106,11 +106,14 @@ fn finish_line(alloc: Global, one: &mut Message, kept: &KeptAnswers) -> Result<(
     requires { one.old.kind ≡ Line }
     ensures { OnOk result (IsMadeOf kept.now.answers.items one.old one.new) }
 {
-    if let Some(answer) = kept.find(one.text.as_str()) {
-        one.text = String::from_str(alloc, answer)?;
-        one.kind = Kind::Whole;
+    match kept.find(one.text.as_str()) {
+        None => Ok(()),
+        Some(answer) => {
+            one.text = String::from_str(alloc, answer)?;
+            one.kind = Kind::Whole;
+            Ok(())
+        }
     }
-    Ok(())
 }
 
 // A message, as it goes out, or as it waits for its answer.

@@ -6,12 +6,18 @@ use Rattle.lobby_web.specs.declared.site.Site.{Site}
 use Rattle.lobby_web.specs.declared.answer.Asked.{Asked}
 use Rattle.lobby_web.specs.Answering.{IsAnswer, is_switch}
 use Rattle.lobby_web.specs.Asking.{Replies}
+use Rattle.lobby_web.specs.Forwarding.{AreToldBy}
 use Rattle.lobby_web.specs.Browsing.{AreAnswered}
 
 pub chain-answers : (old new : Asked) (calls : List Call) → Chain Replies old calls new → AreAnswered old.site.now calls
 chain-answers old new [] chain = tt
 chain-answers old new (call ∷ calls) chain =
     (chain.1.0, subst (λ (site : Site). AreAnswered site calls) chain.1.1 (chain-answers chain.0 new calls chain.2))
+
+-- for whom a proxy says that it asks
+pub chain-told : (old new : Asked) (calls : List Call) → Chain Replies old calls new → AreToldBy calls old.forwarded new.forwarded
+chain-told old new [] chain = ap (λ (a : Asked). a.forwarded) chain
+chain-told old new (call ∷ calls) chain = (chain.0.forwarded, chain.1.3, chain-told chain.0 new calls chain.2)
 
 -- the last of these calls, and that it was an upgrade which the site granted
 pub record EndsInSwitch (site : Site) (calls : List Call) : Type 0 where

@@ -1,6 +1,7 @@
 -- One browser's connection, from its first byte on.
 use Rattle.std.specs.Prelude.{ℕ, ◌≡◌, ◌≢◌, ◌<◌, ◌≤◌, Bool, true, false, List, [], ◌∷◌, ◌++◌, drop, length, ⊤, Option}
 use Rattle.std.specs.Prelude.{None, Result, Err}
+use Rattle.std.specs.declared.net.ip_addr.IpAddr.{IpAddr}
 use Rattle.http_server.specs.declared.state.Config.{Config}
 use Rattle.http_server.specs.declared.state.State.TheVariants.{Open, Upgraded}
 use Rattle.http_server.specs.Connection.{config_of, history}
@@ -15,6 +16,7 @@ use Rattle.lobby_web.specs.declared.socket.Unsaid.TheVariants.{NotOpen}
 use Rattle.lobby_web.specs.declared.browser.Stage.{Stage}
 use Rattle.lobby_web.specs.declared.browser.Stage.TheVariants as At
 use Rattle.lobby_web.specs.Answering.{IsAnswer, IsGranted}
+use Rattle.lobby_web.specs.Forwarding.{AreToldBy}
 use Rattle.lobby_web.specs.declared.heading.Heading.{Heading}
 use Rattle.lobby_web.specs.Heading.{heading_of, is_read}
 use Rattle.lobby_web.specs.Talking.{IsFresh, Keeps, TakesIn, Hears, Says, may_say}
@@ -76,6 +78,15 @@ Answers config site old (At.Http connection) =
 Answers config site old (At.Socket socket) = HandsOver config site old socket
 Answers config site old At.Over = ⊤
 
+-- For whom a proxy says that it asks once the site has answered, by the requests that it answered. Where memory is
+-- refused nothing is said of it.
+abbrev pub Tells : Config → Site → History → Option IpAddr → Option IpAddr → Stage → Type 0
+Tells config site old told after (At.Http connection) =
+    (serves : Serves config site old (history connection)) × AreToldBy serves.calls told after
+Tells config site old told after (At.Socket socket) =
+    (handed : HandsOver config site old socket) × AreToldBy handed.serves.calls told after
+Tells config site old told after At.Over = ⊤
+
 -- Bytes are taken: of a socket while it is not over, and neither too many wait to be read nor too many to be written.
 abbrev pub WantsBytes : Stage → Type 0
 WantsBytes (At.Http connection) = WantsRead (config_of connection) (history connection)
@@ -115,6 +126,18 @@ TakesBytes site bytes (At.Http connection) new =
 TakesBytes site bytes (At.Socket old) new = (socket : Socket) × (new ≡ At.Socket socket) × TakesIn bytes old socket
 TakesBytes site bytes At.Over new = ⊥
 
+-- For whom a proxy says that it asks then: as before, where the site does not answer.
+abbrev pub TellsIf : Bool → Config → Site → History → Option IpAddr → Option IpAddr → Stage → Type 0
+TellsIf true config site now told after new = Tells config site now told after new
+TellsIf false config site now told after new = after ≡ told
+
+abbrev pub TellsBytes : Site → List ℕ → Stage → Option IpAddr → Option IpAddr → Stage → Type 0
+TellsBytes site bytes (At.Http connection) told after new =
+    TellsIf (is_read (heading_of (history connection).received) bytes) (config_of connection) site
+    (after_read (history connection) bytes) told after new
+TellsBytes site bytes (At.Socket old) told after new = after ≡ told
+TellsBytes site bytes At.Over told after new = after ≡ told
+
 -- What becomes of bytes that came: they are taken where bytes are wanted, and else the connection is over.
 pub record Takes (site : Site) (bytes : List ℕ) (old new : Stage) : Type 0 where
   pub wanted : WantsBytes old → TakesBytes site bytes old new
@@ -128,6 +151,13 @@ Writes site count (At.Socket old) new =
     (socket : Socket) × (new ≡ At.Socket socket) × (socket.output.items ≡ drop count old.output.items)
     × Keeps old socket
 Writes site count At.Over new = new ≡ At.Over
+
+-- For whom a proxy says that it asks then.
+abbrev pub TellsOn : Site → ℕ → Stage → Option IpAddr → Option IpAddr → Stage → Type 0
+TellsOn site count (At.Http connection) told after new =
+    Tells (config_of connection) site (after_sent (history connection) count) told after new
+TellsOn site count (At.Socket old) told after new = after ≡ told
+TellsOn site count At.Over told after new = after ≡ told
 
 -- What a browser's socket gives next; by HTTP it gives nothing.
 abbrev pub HearsNext : Stage → Stage → Option Heard → Type 0

@@ -43,6 +43,10 @@ abbrev pub has_end : Heading → List ℕ → Bool
 has_end h [] = false
 has_end h (b ∷ bytes) = (ends_head h.line b || is_foreign b) || has_end (further h b) bytes
 
+-- A head has begun, of a request or of what is none.
+abbrev pub has_begun : Heading → Bool
+has_begun h = nat_lt 0 h.length
+
 -- how far a head is once all these bytes have come
 abbrev pub heading_of : List ℕ → Heading
 heading_of received = heading_after fresh received

@@ -3,6 +3,7 @@ pub mod Pages
 pub mod Requests
 pub mod Listed
 pub mod Answering
+pub mod Forwarding
 pub mod Asking
 pub mod Codes
 pub mod Frames

@@ -1,7 +1,6 @@
 //! What a request is answered.
-ghost use Rattle.std.specs.Prelude.{◌≡◌, ◌++◌, ◌∷◌, [], Some, false, IfSome, IsTrue, OnOk, bytes_eq, codes};
+ghost use Rattle.std.specs.Prelude.{◌≡◌, ◌++◌, ◌∷◌, [], Some, false, IsTrue, OnOk, bytes_eq, codes};
 ghost use Rattle.std.specs.Option.{option_copied};
-ghost use Rattle.std.specs.Net.Grammar.{IsIpText};
 ghost use Rattle.std.specs.List.{list_any};
 ghost use Rattle.http.specs.Request.{head_of};
 ghost use Rattle.http_header.specs.Token.{lowercase};
@@ -10,7 +9,8 @@ ghost use Rattle.http_header.specs.FieldValue.{is_visible_text};
 ghost use Rattle.http1.specs.Fields.{elements};
 ghost use Rattle.http_server.specs.Response.{IsBlank, IsResponse, fields_of};
 ghost use Rattle.lobby_web.specs.Media.{media_type};
-ghost use Rattle.lobby_web.specs.Requests.{field, last_field, forwarded_text, count_of, host_of, scheme_of, is_by_http};
+ghost use Rattle.lobby_web.specs.Forwarding.{IsToldBy};
+ghost use Rattle.lobby_web.specs.Requests.{field, last_field, count_of, host_of, scheme_of, is_by_http};
 ghost use Rattle.lobby_web.specs.Requests.{is_taken, is_page_of, path_of, is_from_page, lists_upgrade};
 ghost use Rattle.lobby_web.specs.Requests.{asks_upgrade, only_reads, is_number, names_game, is_board, served_path};
 ghost use Rattle.lobby_web.specs.Answering.{guards, guarded, readers, file_fields, same_fields, is_tag_of, is_known};
@@ -26,7 +26,6 @@ use http1::fields::KnownFields;
 use http1::text::eq_ignore_case;
 use std::alloc::{AllocError, Global};
 use std::net::IpAddr;
-use std::str;
 use websocket::handshake::server::accept_key;
 
 // The value of the first field of this name, which is in small letters. Nothing where there is none.
@@ -503,43 +502,42 @@ fn last_field<'a>(request: &'a Request<Bytes>, name: &str) -> &'a [u8]
     }
 }
 
-// The address for which the last proxy says that it asks: the last element of X-Forwarded-For.
-fn forwarded(request: &Request<Bytes>) -> Option<IpAddr>
-    ensures { IfSome result (IsIpText (forwarded_text request.now)) }
+// The address for which the last proxy says that it asks: the last element of X-Forwarded-For; where that is none, as
+// before.
+fn forwarded(request: &Request<Bytes>, before: Option<IpAddr>) -> Option<IpAddr>
+    ensures { IsToldBy request.now before result }
 {
     let text = last_element(last_field(request, "x-forwarded-for"));
-    match str::from_utf8(text) {
-        Ok(text) => match text.parse::<IpAddr>() {
-            Ok(address) => Some(address),
-            Err(_) => None,
-        },
-        Err(_) => None,
+    match IpAddr::parse_ascii(text) {
+        Ok(address) => Some(address),
+        Err(_) => before,
     }
 }
 
 /// The site, as it answers the requests of one connection, whether the last answer was an upgrade, and for whom the
-/// last request says that a proxy asks.
+/// last request that says it says that a proxy asks.
 #[derive(Drop)]
 pub struct Asked<'a> {
     alloc: Global,
     site: &'a Site,
     /// Whether the last answer was an upgrade.
     pub(crate) has_switched: bool,
-    /// The address for which the last request says that a proxy asks. None where it says none, or nothing was asked.
+    /// The address for which the last request that says one says that a proxy asks. None where none did.
     pub(crate) forwarded: Option<IpAddr>,
 }
 
 impl<'a> Asked<'a> {
-    /// Nothing was asked.
-    pub fn new(alloc: Global, site: &'a Site) -> Asked<'a>
+    /// Nothing was asked since a proxy asked for this address, if one did.
+    pub fn new(alloc: Global, site: &'a Site, forwarded: Option<IpAddr>) -> Asked<'a>
         ensures site { result.site.now ≡ site.now }
         ensures asked { result.has_switched ≡ false }
+        ensures forwarded { result.forwarded ≡ forwarded }
     {
         Asked {
             alloc,
             site,
             has_switched: false,
-            forwarded: None,
+            forwarded,
         }
     }
 }
@@ -555,7 +553,7 @@ impl Service for Asked<'_> {
         response: &mut Response,
     ) -> Result<(), AllocError> {
         answer(self.alloc, self.site, request, response)?;
-        self.forwarded = forwarded(request);
+        self.forwarded = forwarded(request, self.forwarded);
         self.has_switched = response.status.as_u16() == 101;
         Ok(())
     }

@@ -6,8 +6,9 @@ ghost use Rattle.http_server.specs.History.{after_read};
 ghost use Rattle.websocket.specs.Content.{text as Text, ping as Ping};
 ghost use Rattle.lobby_web.specs.Browsing.{pending, unread, Answers, WantsBytes, IsOver, is_open, Takes};
 ghost use Rattle.lobby_web.specs.Browsing.{TakesBytes, Writes, HearsNext, SaysTo, IsNew, IsHeaded};
+ghost use Rattle.lobby_web.specs.Browsing.{Tells, TellsBytes, TellsOn};
 ghost use Rattle.lobby_web.specs.declared.browser.Stage.TheVariants as At;
-ghost use Rattle.lobby_web.specs.Heading.{heading_of};
+ghost use Rattle.lobby_web.specs.Heading.{heading_of, has_begun};
 
 use crate::answer::Asked;
 use crate::heading::{Heading, MOST_IN_HEAD};
@@ -52,11 +53,12 @@ fn answered(
     mut connection: Connection,
     told: &mut Option<IpAddr>,
 ) -> Stage
-    ensures { Answers (config_of connection) site.now (history connection) result }
+    ensures answers { Answers (config_of connection) site.now (history connection) result }
+    ensures told { Tells (config_of connection) site.now (history connection) told.old told.new result }
 {
-    let mut asked = Asked::new(alloc, site);
+    let mut asked = Asked::new(alloc, site, *told);
     connection.advance(&mut asked);
-    *told = asked.forwarded.or(*told);
+    *told = asked.forwarded;
     match connection.state() {
         State::Upgraded => {}
         _ => return Stage::Http(connection),
@@ -93,6 +95,7 @@ fn read_http(
 ) -> Stage
     requires { heading.old ≡ heading_of (history connection).received }
     ensures takes { TakesBytes site.now bytes.now (At.Http connection) result }
+    ensures told { TellsBytes site.now bytes.now (At.Http connection) told.old told.new result }
     ensures headed { IsHeaded result heading.new }
 {
     let is_read = heading.is_read(bytes);
@@ -119,6 +122,7 @@ fn taken(
     requires wanted { WantsBytes stage }
     requires headed { IsHeaded stage heading.old }
     ensures takes { TakesBytes site.now bytes.now stage result }
+    ensures told { TellsBytes site.now bytes.now stage told.old told.new result }
     ensures headed { IsHeaded result heading.new }
 {
     match stage {
@@ -140,7 +144,8 @@ fn lightened(
     told: &mut Option<IpAddr>,
 ) -> Stage
     requires { count ≤ length (pending stage) }
-    ensures { Writes site.now count stage result }
+    ensures writes { Writes site.now count stage result }
+    ensures told { TellsOn site.now count stage told.old told.new result }
 {
     match stage {
         Stage::Http(mut connection) => {
@@ -199,6 +204,13 @@ impl Browser {
         }
     }
 
+    /// Whether a head has begun, of a request or of what is none.
+    pub fn has_begun(&self) -> bool
+        ensures { result ≡ has_begun self.now.heading }
+    {
+        self.heading.length > 0
+    }
+
     /// Whether something may be said.
     pub fn is_open(&self) -> bool
         ensures { result ≡ is_open self.now.stage }
@@ -226,7 +238,10 @@ impl Browser {
     /// Bytes came, at most `MOST_AT_ONCE`; none says that the peer sends no more. Where no bytes are wanted, or there
     /// are more, or memory is refused, the connection is over.
     pub fn take(&mut self, site: &Site, bytes: &[u8])
-        ensures { Takes site.now bytes.now self.old.stage self.new.stage }
+        ensures takes { Takes site.now bytes.now self.old.stage self.new.stage }
+        ensures told { WantsBytes self.old.stage
+            → TellsBytes site.now bytes.now self.old.stage self.old.forwarded self.new.forwarded self.new.stage }
+        ensures untold { ¬ (WantsBytes self.old.stage) → self.new.forwarded ≡ self.old.forwarded }
     {
         let wanted = self.wants_read();
         let stage = mem::replace(&mut self.stage, Stage::Over);
@@ -295,7 +310,8 @@ impl Browser {
     /// So many of the bytes that wait were written. HTTP may go on then, where it had waited for that.
     pub fn written(&mut self, site: &Site, count: usize)
         requires { count ≤ length (pending self.old.stage) }
-        ensures { Writes site.now count self.old.stage self.new.stage }
+        ensures writes { Writes site.now count self.old.stage self.new.stage }
+        ensures told { TellsOn site.now count self.old.stage self.old.forwarded self.new.forwarded self.new.stage }
     {
         let stage = mem::replace(&mut self.stage, Stage::Over);
         let stage = lightened(self.alloc, site, stage, count, &mut self.forwarded);

@@ -59,7 +59,7 @@ fn is_foreign(byte: u8) -> bool
 pub struct Heading {
     line: Line,
     /// So many bytes came since the last end; not counted further than a head may have.
-    length: usize,
+    pub(crate) length: usize,
 }
 
 /// So many bytes a head has at most.

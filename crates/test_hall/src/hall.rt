@@ -3,7 +3,7 @@ use crate::browser::{file_of, site_of};
 use crate::peer::{MANY, PINGS, Peer};
 use lobby_desk::{Halts, Limits, Order};
 use lobby_loop::{
-    Acceptor, ActLog, Comers, Fault, Hall, KeepsLinks, NoActLog, NoLinks, Roll, Welcomed, welcome,
+    Acceptor, ActLog, Comers, Fault, Hall, KeepsLinks, NoActLog, Roll, Welcomed, welcome,
 };
 use lobby_players::carried_out;
 use lobby_web::Kind;
@@ -180,9 +180,9 @@ impl Lab {
         None
     }
 
-    // A turn more, without a log and without a players' file.
+    // A turn more, without a log.
     fn turn_alone(&mut self, rt: &impl Abort, at: u64) {
-        let turned = self.hall.turn(at, false, &mut NoActLog, &mut NoLinks);
+        let turned = self.hall.turn(at, false, &mut NoActLog, &mut self.links);
         assert!(rt; turned.is_ok());
     }
 

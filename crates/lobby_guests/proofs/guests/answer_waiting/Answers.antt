@@ -1,11 +1,11 @@
 -- The replay goes on for who waits longest.
 use Rattle.std.proofs.Common.{List, Option, ℕ, refl, ap, sym, subst, ◌∙◌}
-use Rattle.std.specs.Prelude.{IfSome}
 use Rattle.std.proofs.Math.Logic.{∥∥₁_map}
 use Rattle.lobby_talk.specs.declared.kept_answer.KeptAnswer.{KeptAnswer}
 use Rattle.lobby_talk.specs.declared.under_way.UnderWay.{UnderWay}
 use Rattle.lobby_talk.specs.Replaying.{Replays}
-use Rattle.lobby_talk.specs.Keeping.{IsPut}
+use Rattle.lobby_talk.specs.Keeping.{IsPut, IsPutIf}
+use Rattle.lobby_talk.specs.declared.kept.KeptAnswers.{KeptAnswers}
 use Rattle.lobby_guests.specs.Guests.{wanted_text, AreAnswered}
 use Rattle.lobby_guests.proofs.Catching.{all_caught_none}
 use Rattle.lobby_guests.proofs.guests.answer_waiting.Goals as goal
@@ -26,7 +26,8 @@ returns-in-None-clause-answers g c =
       c.in_ok-replay_on.field-0,
       subst (λ (n : Option (List ℕ)). Replays kept n old now c.in_ok-replay_on.field-0) next goes,
       subst (λ (answer : Option KeptAnswer). AreAnswered answer guests guests) (sym c.in-None.is) refl,
-      subst (λ (answer : Option KeptAnswer). IfSome answer (λ one. IsPut one new)) (sym c.in-None.is) tt,
+      subst (λ (answer : Option KeptAnswer). IsPutIf answer kept new) (sym c.in-None.is)
+          (ap (λ (k : KeptAnswers). k.answers.items) c.in_ok-replay_on.ensures.kept),
     ))
 
 pub returns-in_ok-keep-in-Some-clause-answers : goal.returns-in_ok-keep-in-Some-clause-answers
@@ -39,12 +40,13 @@ returns-in_ok-keep-in-Some-clause-answers g c =
     let told = c.answer_all.new.guests.items in
     let new = c.keep.new.self.kept.answers.items in
     subst (λ (r : Option UnderWay). ∥ ((answer : Option KeptAnswer) × Replays kept (wanted_text guests) old r answer
-    × AreAnswered answer guests told × IfSome answer (λ one. IsPut one new)) ∥₁) (sym c.in_ok-keep-in-Some.ensures.replay)
+    × AreAnswered answer guests told × IsPutIf answer kept new) ∥₁) (sym c.in_ok-keep-in-Some.ensures.replay)
     (∥∥₁_map c.in_ok-replay_on.ensures.replays
     (λ goes. (
       c.in_ok-replay_on.field-0,
       subst (λ (n : Option (List ℕ)). Replays kept n old now c.in_ok-replay_on.field-0) next goes,
       subst (λ (answer : Option KeptAnswer). AreAnswered answer guests told) (sym c.in-Some.is) c.answer_all.ensures.answered,
-      subst (λ (answer : Option KeptAnswer). IfSome answer (λ one. IsPut one new)) (sym c.in-Some.is)
-          c.in_ok-keep-in-Some.ensures.keeps,
+      subst (λ (answer : Option KeptAnswer). IsPutIf answer kept new) (sym c.in-Some.is)
+          (subst (λ (k : KeptAnswers). IsPut c.in-Some.answer k.answers.items new) c.in_ok-replay_on.ensures.kept
+          c.in_ok-keep-in-Some.ensures.keeps),
     )))

@@ -1,8 +1,9 @@
--- One browser more.
+-- One browser more; and where they wait nobody is called.
 use Rattle.std.proofs.Common.{ℕ, ◌<◌, ◌+◌, ◌∙◌, List, length, subst, sym, refl, arith}
 use Rattle.std.proofs.lemmas.List.{with_items_is}
 use Rattle.lobby_guests.specs.declared.guest.Guest.{Guest}
 use Rattle.lobby_guests.specs.Guests.{InTurn, IsOthersTurn, Room, full_room}
+use Rattle.lobby_guests.proofs.Attending.{nobody_called}
 use Rattle.lobby_guests.proofs.EachGuest.{IsTurnedTo, turned_none, turned_further, turned_all}
 use Rattle.lobby_guests.proofs.guests.attend_others.Goals as goal
 
@@ -25,8 +26,15 @@ loop-guest-preserved g c =
     c.loop-guest.guest-index c.guest-item.result c.attend_other.new.guest (full_room c.args.talk.now) so_far after lt
     c.loop-guest.invariant c.in_ok-any.ensures
 
-pub returns : goal.returns
-returns g c =
+pub returns-then-waits-clause-turned : goal.returns-then-waits-clause-turned
+returns-then-waits-clause-turned g c = (
+  full_room c.args.talk.now,
+  refl,
+  nobody_called g.S.Read.remaining c.args.site.now c.args.at c.args.guests.now.items (full_room c.args.talk.now),
+)
+
+pub returns-clause-turned : goal.returns-clause-turned
+returns-clause-turned g c =
     let guests = c.args.guests.now in
     let items = c.loop-guest.guest-items in
     let so_far = c.loop-guest.invariant in

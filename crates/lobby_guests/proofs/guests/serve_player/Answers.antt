@@ -3,10 +3,11 @@ use Rattle.std.proofs.Common.{◌∙◌, Bool, true, false, inl, inr, refl, ap, 
 use Rattle.lobby_guests.specs.declared.rounds.Asks.{Asks}
 use Rattle.lobby_guests.specs.Guests.{IsHeardNow, IsPaced, IsPlayerHeard}
 use Rattle.lobby_guests.specs.Rounds.{room_of, IsToAsk}
+use Rattle.lobby_guests.proofs.Attending.{or_right}
 use Rattle.lobby_guests.proofs.guests.serve_player.Goals as goal
 
-pub returns-then-not-is_asked : goal.returns-then-not-is_asked
-returns-then-not-is_asked g c =
+pub returns-then-not-is_asked-clause-served : goal.returns-then-not-is_asked-clause-served
+returns-then-not-is_asked-clause-served g c =
     let read = c.read_in-has_read.new.self in
     let talk = c.args.talk.now in
     let asks = c.is_to_ask.new.asks in
@@ -28,8 +29,11 @@ returns-then-not-is_asked g c =
       hears = hears;
     }
 
-pub returns : goal.returns
-returns g c =
+pub returns-clause-silent : goal.returns-clause-silent
+returns-clause-silent g c = λ none. c.in_ok-has_heard.ensures.silent (or_right _ _ none)
+
+pub returns-clause-served : goal.returns-clause-served
+returns-clause-served g c =
     let read = c.read_in-has_read.new.self in
     let talk = c.args.talk.now in
     let asks = c.is_to_ask.new.asks in

@@ -6,10 +6,10 @@ pub returns-clause-hasty : goal.returns-clause-hasty
 returns-clause-hasty c = λ text word long. begins_as_act text word long
 
 pub returns-clause-others : goal.returns-clause-others
-returns-clause-others c = λ text word. begins_as_none text word
+returns-clause-others c = λ text rest word. begins_as_none text rest word
 
 pub returns-clause-long : goal.returns-clause-long
-returns-clause-long c = λ text word. begins_not_brief text word
+returns-clause-long c = λ text rest word. begins_not_brief text rest word
 
 pub returns-clause-brief : goal.returns-clause-brief
 returns-clause-brief c = λ text word long. begins_brief text word long

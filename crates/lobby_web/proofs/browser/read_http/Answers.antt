@@ -13,7 +13,7 @@ returns-then-is_read-clause-headed c =
     (heading_read (history c.args.connection) c.args.bytes.now c.args.heading.now c.is_read-is_read.new.self c.requires
     c.is_read-is_read.ensures.heading
     ∙ ap (λ (h : History). heading_of h.received) (sym (c.takes_all.ensures.all c.if-not-takes_all.false)))
-    c.answered.ensures
+    c.answered.ensures.answers
 
 pub returns-else-is_read-clause-headed : goal.returns-else-is_read-clause-headed
 returns-else-is_read-clause-headed c =

@@ -1,7 +1,7 @@
 -- The first that waits is told as it is.
 use Rattle.std.proofs.Common.{◌≡◌, ◌∷◌, ◌∙◌, true, refl, ap, sym, arith}
-use Rattle.lobby_guests.specs.Waiting.{has_whole}
-use Rattle.lobby_guests.proofs.Catching.{first_there, whole_there, at_line, told_whole, said_from}
+use Rattle.lobby_guests.specs.Waiting.{has_whole, is_line}
+use Rattle.lobby_guests.proofs.Catching.{first_there, whole_there, at_line, not_line, told_whole, said_from}
 use Rattle.lobby_guests.proofs.guest.Guest.tell_whole.Goals as goal
 
 pub remove-one-requires : goal.remove-one-requires
@@ -22,6 +22,7 @@ returns-clause-told g c =
     ∙ ap (λ l. one ∷ l) (sym c.remove-one.ensures.items) in
     λ _. (
       one,
+      not_line (is_line one.kind) (ap has_whole (sym first) ∙ whole),
       record {
         first = first ∙ ap (λ v. one ∷ v.items) (sym c.tell.ensures.waits);
         text = c.as_str.result.now;

@@ -1,7 +1,9 @@
 -- The server is reached or not, browsers come, and the hall has its turn.
-use Rattle.std.proofs.Common.{◌∙◌, ap, sym, subst}
+use Rattle.std.proofs.Common.{◌∙◌, ◌||◌, Bool, ap, sym, subst}
 use Rattle.std.specs.Prelude.{nat_lt}
 use Rattle.lobby_loop.specs.Turning.{IsReached}
+use Rattle.lobby_loop.proofs.Seats.{or_true}
+use Rattle.lobby_loop.proofs.Waiting.{by_work}
 use Rattle.lobby_loop.proofs.lobby.Lobby.turn.Goals as goal
 
 pub returns-clause-turned : goal.returns-clause-turned
@@ -20,4 +22,7 @@ returns-clause-turned g c =
       turned.1 ∙ ap (λ n. nat_lt c.args.at n) (c.welcome.ensures.short ∙ c.reach_server.ensures.short ∙ c.hold.ensures.short),
       turned.2,
       turned.3,
+      λ long. c.turned.ensures.worked (ap (λ (b : Bool). c.in_ok-has_reached.has_reached || b) (turned.4 long) ∙ or_true c.in_ok-has_reached.has_reached),
+      by_work c.in_ok-has_turned.has_turned (λ is. c.turned.ensures.worked (ap (λ (b : Bool). c.in_ok-has_reached.has_reached || b) is ∙ or_true c.in_ok-has_reached.has_reached))
+          turned.5,
     )

@@ -4,15 +4,19 @@ use Rattle.std.specs.String.{string_bytes}
 use Rattle.text_pgn.specs.Game.{NoStart}
 use Rattle.text_pgn.specs.Replaying.{IsUnderWay}
 use Rattle.lobby_talk.specs.Making.{lines_behind}
-use Rattle.lobby_talk.specs.Replays.{IsReplayOf}
+use Rattle.lobby_talk.specs.Replays.{IsNumberIn, IsReplayOf}
 use Rattle.lobby_talk.proofs.Replaying.{no_game}
 use Rattle.lobby_talk.proofs.under_way.UnderWay.begin.Goals as goal
 
-pub lost-requires : goal.lost-requires
-lost-requires c =
+pub lost-requires-clause-none : goal.lost-requires-clause-none
+lost-requires-clause-none c =
     no_game (lines_behind (string_bytes c.in_ok-pgn.pgn))
     (subst (λ (l : List ℕ). NoStart (lines_behind l)) (sym c.in_ok-pgn.ensures.ok)
     (subst (λ (l : List ℕ). NoStart l) c.behind.ensures (rw c.in-None.is at c.in_ok-begin.ensures.none)))
+
+pub lost-requires-clause-named : goal.lost-requires-clause-named
+lost-requires-clause-named c =
+    ∣ subst (λ (l : List ℕ). IsNumberIn l c.args.game) (sym c.in_ok-pgn.ensures.ok) c.requires ∣₁
 
 pub invariant_of-result : goal.invariant_of-result
 invariant_of-result c =

@@ -17,14 +17,20 @@ invariant_of-result c =
       });
     }
 
-pub new-requires : goal.new-requires
-new-requires c =
+pub new-requires-clause-made : goal.new-requires-clause-made
+new-requires-clause-made c =
     let text = string_bytes c.args.self.pgn in
     ∥∥₁_map c.args.self.under_way (λ u. whole_of_line text (string_bytes c.in-Whole.text) c.args.self.game u.named
     (rw c.in-Whole.is at c.in_ok-replay.ensures c.args.self.game (lines_behind text) u.under_way).1)
 
-pub lost-requires : goal.lost-requires
-lost-requires c =
+pub new-requires-clause-named : goal.new-requires-clause-named
+new-requires-clause-named c = ∥∥₁_map c.args.self.under_way (λ u. u.named)
+
+pub lost-requires-clause-named : goal.lost-requires-clause-named
+lost-requires-clause-named c = ∥∥₁_map c.args.self.under_way (λ u. u.named)
+
+pub lost-requires-clause-none : goal.lost-requires-clause-none
+lost-requires-clause-none c =
     let text = string_bytes c.args.self.pgn in
     λ start moves tells. not_there c.args.self.under_way (λ u.
     (rw c.in-NoGame.is at c.in_ok-replay.ensures c.args.self.game (lines_behind text) u.under_way).0 start moves tells)
@@ -33,7 +39,8 @@ pub returns-in-More : goal.returns-in-More
 returns-in-More c =
     let text = string_bytes c.args.self.pgn in
     ∥∥₁_map c.args.self.under_way (λ u.
-    (refl, (rw c.in-More.is at c.in_ok-replay.ensures c.args.self.game (lines_behind text) u.under_way).1))
+    let part = rw c.in-More.is at c.in_ok-replay.ensures c.args.self.game (lines_behind text) u.under_way in
+    (refl, part.1, part.2))
 
 pub returns-in-Whole : goal.returns-in-Whole
 returns-in-Whole c =
