@@ -27,9 +27,10 @@ Where it cannot know which game is a board's, or whether it has one, it says so,
 board alone, and ends with status 1. Look at the games then, and give it again with --take for the
 game that is the board's, or with --after where none up to a game is: it is opened then.
 
-A row of --pairings with White and no Black is a bye: nothing is opened for it. By
---players a name that is not in that file is refused before anything is opened. So is an
-initial time of less than 60 seconds, since 15+10 is 15 seconds here, but with --short.
+A row of --pairings with White and no Black is a bye: nothing is opened for it, nor for one
+without times, which is not played on the server. By --players a name that is not in that file
+is refused before anything is opened. So is an initial time of less than 60 seconds, since 15+10
+is 15 seconds here, but with --short.
 
 Exit status: 0; 1 with what is wrong on standard error; 2 for words that the program does
 not know.

@@ -9,7 +9,7 @@ use lobby_players::full_name;
 use lobby_words::Player;
 use night_links::{Answer, Link, refused};
 use night_rounds::{
-    Against, Decision, Note, Pairing, decision_about, game_in, last_of, verdict_text,
+    Against, Decision, Game, Note, Pairing, decision_about, game_in, last_of, verdict_text,
 };
 use player_name::Name;
 use server_answers::{Refusal, Seats, Shown, refusal_of, result_text, shown_of};
@@ -105,6 +105,14 @@ fn going_on(ended: &Ended) -> &'static str {
         "its game goes on"
     } else {
         ""
+    }
+}
+
+// Why a board has no game.
+fn no_game(paired: &Game) -> &'static str {
+    match paired.times {
+        Some(_) => "no game was opened for it",
+        None => "it is not played on the server",
     }
 }
 
@@ -402,8 +410,8 @@ impl<'a> Outcomes<'a> {
             (Against::Game(paired), Some(game)) => {
                 self.found(rt, &pairing.white, &paired.black, game)
             }
-            (Against::Game(_), None) => {
-                Ok(Found::Unknown(String::from_str(self.alloc, "no game was opened for it")?))
+            (Against::Game(paired), None) => {
+                Ok(Found::Unknown(String::from_str(self.alloc, no_game(paired))?))
             }
         }
     }
