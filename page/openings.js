@@ -2,10 +2,11 @@
 // arbiter's word. The table is looked at first, so that no board gets a second game.
 
 import { t } from './language.js';
-import { readPgn, readRefusal, readRows, readTimes, timesOfOpen } from './lines.js';
+import { BYES, readPgn, readRefusal, readRows, readTimes, timesOfOpen } from './lines.js';
 import { byId, copy, make, save, setText } from './make.js';
 import { isOf } from './pairing.js';
 import { folded } from './plain.js';
+import { resultText } from './round.js';
 import { arbiterWords, timesWords } from './words.js';
 
 const HEADER = 'board,white,black,times,start', FIELDS = 5;
@@ -15,8 +16,6 @@ const UNTOLD = -1;                   // in the place of a game's number
 const SETTLES = 700;                 // milliseconds between two looks at the table
 const ZONE = /(Z|[+-]\d\d:\d\d)$/;
 const SEPARATORS = [';', '\t', ','];  // as spreadsheets save and copy
-/** The points of a bye by its sign, as `chess-club start` reads it. */
-const BYES = { '': '1', U: '1', F: '1', H: '½', Z: '0' };
 const MOST_NAMED = 12;               // players without a board
 
 export class Openings {
@@ -203,7 +202,7 @@ export class Openings {
     const { board, white, black, line, start, game, said, bye } = one, [first, second] = [white, black].map((name) =>
       this.app.nameWords(name)), times = timesWords(readTimes(timesOfOpen(`open white ${line}`)));
     return make('li', { class: game ? 'done' : said ? 'open' : 'still' }, t`Board ${board}`, ': ',
-      black ? `${first} – ${second}${times && `, ${times}`}` : t`${first} has no opponent: a bye worth ${BYES[bye]}`,
+      black ? `${first} – ${second}${times && `, ${times}`}` : t`${first} has no opponent: a bye worth ${resultText(BYES[bye || 'U'])}`,
       start > Date.now() && `, ${t`from ${momentWords(start)} on`}`, said && `. ${said}`,
       game > 0 && ' ', game > 0 && make('a', { href: `#/game/${game}` }, t`Look at game ${game}`),
       black && !game && this.elsewhere(one));
@@ -302,7 +301,7 @@ function wrongWith(row, { line, start, bye, isElsewhere }, unclear, twice) {
   if (unclear) return t`${unclear.said} is the full name of ${unclear.meant.join(', ')}: write which of them it is`;
   if (twice !== undefined) return t`${twice} stands twice`;
   if (Number.isNaN(start) || begins && !ZONE.test(begins)) return t`the start is not as 2026-11-26T19:30Z is`;
-  if (bye !== null) return bye in BYES ? '' : t`the sign of a bye is none of U, F, H and Z`;
+  if (bye !== null) return (bye || 'U') in BYES ? '' : t`the sign of a bye is none of U, F, H and Z`;
   if (isElsewhere) return '';
   if (timesOfOpen(`open white ${line}`) !== times) return t`the times are not as 300+2 is`;
   // (the page writes 15+10 for 15 minutes, and this file has seconds)

@@ -70,8 +70,9 @@ what the server says, for results, trf and standings that are given this file.
 
 The result is 1-0, 0-1, 1/2-1/2, 1/2-0 or 0-1/2 (half a point for one alone), 0-0 (both have
 lost), or of who did not come +/-, -/+ or -/-, with a sign of equality before the last two:
---result=-/+; W/L, L/W or D/D of a game that is not rated, since not both sides made a move; or
-as-played, by which what was decided before counts no more, and what the server says does again.
+--result=-/+; W/L, L/W or D/D of a game that is not rated, since not both sides made a move; of a
+bye U, F, H or Z, its sign in a report; or as-played, by which what was decided before counts no
+more, and what the server says does again, or the pairings of a bye.
 
 Exit status: 0; 1 with what is wrong on standard error; 2 for words that the program does
 not know.
@@ -156,7 +157,7 @@ const BOARD: OptionText = OptionText {
 
 // The results that there are.
 const RESULTS_THERE: &str =
-    "1-0, 0-1, 1/2-1/2, 1/2-0, 0-1/2, 0-0, +/-, -/+, -/-, W/L, L/W, D/D or as-played";
+    "1-0, 0-1, 1/2-1/2, 1/2-0, 0-1/2, 0-0, +/-, -/+, -/-, W/L, L/W, D/D, U, F, H, Z or as-played";
 
 const RESULT: OptionText = OptionText {
     name: "result",

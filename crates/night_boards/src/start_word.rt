@@ -262,7 +262,10 @@ fn tell_others<R: Eprint>(rt: &R, pairings: &[Pairing]) -> Result<()> {
         if let Against::Game(game) = pairing.against
             && game.times.is_none()
         {
-            tell(rt, format_args!("board {board} has no times: no game is opened for it"))?;
+            tell(
+                rt,
+                format_args!("board {board} has no times: no game is opened for it"),
+            )?;
         }
     }
     Ok(())

@@ -1,13 +1,12 @@
 //! The word that writes the results of a round.
 use crate::asked::Asking;
-use crate::decisions::decisions_of;
+use crate::decisions::{black_name, decisions_of};
 use crate::outcomes::{Boards, Outcomes, Told, check_fault, noted_game};
 use anyhow::Result;
 use lobby_players::players_of;
 use lobby_words::Player;
 use night_boards::{Paired, paired_of};
-use night_report::Bye;
-use night_rounds::{Against, Decision, Note, Outcome, Pairing, results};
+use night_rounds::{Against, Decision, Note, Outcome, Pairing, bye_told, results};
 use std::alloc::{AllocError, Global};
 use std::io::{self, Write};
 use std::net::{Net, TcpStream};
@@ -31,10 +30,7 @@ fn told_of<R: Files + AllocGlobal + Eprint>(
 fn no_result(against: &Against) -> &'static str {
     match against {
         Against::Game(_) => "*",
-        Against::Bye(Bye::Pairing) => "bye",
-        Against::Bye(Bye::Full) => "bye F",
-        Against::Bye(Bye::Half) => "bye H",
-        Against::Bye(Bye::Zero) => "bye Z",
+        Against::Bye(bye) => bye_told(*bye),
     }
 }
 
@@ -52,10 +48,7 @@ fn outcome_of<'a>(notes: &[Note], pairing: &'a Pairing, told: &'a Told) -> Outco
     Outcome {
         board: pairing.board,
         white: pairing.white.as_str(),
-        black: match &pairing.against {
-            Against::Game(game) => game.black.as_str(),
-            Against::Bye(_) => "",
-        },
+        black: black_name(&pairing.against),
         result,
         article,
         game: noted_game(notes, pairing.board),

@@ -4,7 +4,8 @@ ghost use Rattle.std.specs.Option.{option_copied};
 ghost use Rattle.night_rounds.specs.Counting as spec;
 
 use crate::decisions::{Decision, Verdict, verdict_text};
-use night_report::{Play, Score};
+use crate::rows::Against;
+use night_report::{Bye, Play, Score};
 
 // The last decision about a board.
 fn last_about(decisions: &[Decision], board: u32) -> Option<&Decision>
@@ -26,6 +27,23 @@ fn is_as_played(verdict: Verdict) -> bool
     matches!(verdict, Verdict::AsPlayed)
 }
 
+// Whether a verdict is of a bye.
+fn is_bye(verdict: Verdict) -> bool
+    ensures { result ≡ spec.is_bye verdict }
+{
+    matches!(verdict, Verdict::Bye(_))
+}
+
+/// Whether a verdict may be that of a board: of a bye it is one of a bye, of a game none, and `as-played` of either.
+pub fn may_have(against: &Against, verdict: Verdict) -> bool
+    ensures { result ≡ spec.may_have against.now verdict }
+{
+    match against {
+        Against::Bye(_) => is_bye(verdict) || is_as_played(verdict),
+        Against::Game(_) => !is_bye(verdict),
+    }
+}
+
 /// The decision that counts for a board: the last one about it; none where that says `as-played`, as where nobody has
 /// decided.
 pub fn decision_about(decisions: &[Decision], board: u32) -> Option<&Decision>
@@ -39,13 +57,35 @@ pub fn decision_about(decisions: &[Decision], board: u32) -> Option<&Decision>
     }
 }
 
+/// A bye as the results of a round tell it.
+pub fn bye_told(bye: Bye) -> &'static str
+    ensures { result.now ≡ spec.bye_told bye }
+{
+    match bye {
+        Bye::Pairing => "bye",
+        Bye::Full => "bye F",
+        Bye::Half => "bye H",
+        Bye::Zero => "bye Z",
+    }
+}
+
+// A verdict as they tell it.
+fn verdict_told(verdict: Verdict) -> &'static str
+    ensures { result.now ≡ spec.verdict_told verdict }
+{
+    match verdict {
+        Verdict::Bye(bye) => bye_told(bye),
+        verdict => verdict_text(verdict),
+    }
+}
+
 /// The result that counts: the arbiter's, and else what came of the game.
 pub fn result_by<'a>(decision: Option<&'a Decision>, told: &'a str) -> &'a str
     ensures { result.now ≡ spec.result_by (option_copied decision.entry) told.entry.now }
 {
     match decision {
         None => told,
-        Some(decision) => verdict_text(decision.verdict),
+        Some(decision) => verdict_told(decision.verdict),
     }
 }
 
@@ -97,7 +137,7 @@ fn score_of(verdict: Verdict) -> Score
         Verdict::HalfWhite => Score::HalfWhite,
         Verdict::HalfBlack => Score::HalfBlack,
         Verdict::Neither | Verdict::NobodyCame => Score::Neither,
-        Verdict::AsPlayed => Score::Open,
+        Verdict::Bye(_) | Verdict::AsPlayed => Score::Open,
     }
 }
 
@@ -142,5 +182,25 @@ pub fn counted(decisions: &[Decision], board: u32, told: Scored) -> Scored
             score: score_of(decision.verdict),
             play: play_by(play_of(decision.verdict), told.play),
         },
+    }
+}
+
+// The bye of a verdict; this one of another's.
+fn bye_or(verdict: Verdict, told: Bye) -> Bye
+    ensures { result ≡ spec.bye_or verdict told }
+{
+    match verdict {
+        Verdict::Bye(bye) => bye,
+        _ => told,
+    }
+}
+
+/// What a bye is: by the decision that counts for its board, and else by the pairings.
+pub fn bye_counted(decisions: &[Decision], board: u32, told: Bye) -> Bye
+    ensures { result ≡ spec.bye_by (spec.decision_about board decisions.now) told }
+{
+    match decision_about(decisions, board) {
+        None => told,
+        Some(decision) => bye_or(decision.verdict, told),
     }
 }
