@@ -66,20 +66,15 @@ fn line_of(alloc: Global, decision: &Decision) -> Result<Vec<u8>> {
     Ok(line)
 }
 
-// The moment, as Unix time in milliseconds.
-fn moment<R: Clock>(rt: &R) -> Result<u64> {
-    match unix_time(rt)? {
-        Some(now) => Ok(now),
-        None => bail!("the system's clock shows a time before 1970"),
-    }
-}
-
 // Puts a decision about a board of these pairings.
 fn decide_board<R>(rt: &R, deciding: &Deciding<'_>, pairings: &[Pairing]) -> Result<()>
 where
     R: Files<File = File> + AllocGlobal + Clock + Eprint,
 {
-    let decision = decision(rt.alloc(), deciding, pairings, moment(rt)?)?;
+    let Some(now) = unix_time(rt)? else {
+        bail!("the system's clock shows a time before 1970");
+    };
+    let decision = decision(rt.alloc(), deciding, pairings, now)?;
     let line = line_of(rt.alloc(), &decision)?;
     put_decision(rt, deciding.file, pairings, line.as_slice())
 }

@@ -24,13 +24,6 @@ pub fn black_name(against: &Against) -> &str {
     }
 }
 
-// Whether a decision is about a board of these pairings, with its players.
-fn is_about(decision: &Decision, pairing: &Pairing) -> bool {
-    decision.board == pairing.board
-        && decision.players.white.as_str() == pairing.white.as_str()
-        && decision.players.black.as_str() == black_name(&pairing.against)
-}
-
 /// Fails where a board can have no such verdict: a bye that of a game, and a game that of a bye.
 pub fn check_verdict(pairing: &Pairing, verdict: Verdict) -> Result<()> {
     let board = pairing.board;
@@ -45,14 +38,17 @@ pub fn check_verdict(pairing: &Pairing, verdict: Verdict) -> Result<()> {
 
 // It fails where a decision is about no board of these pairings, or one that can have no such verdict.
 fn check_decision(decision: &Decision, pairings: &[Pairing]) -> Result<()> {
-    if let Some(pairing) = pairings.iter().find(|pairing| is_about(decision, pairing)) {
-        return check_verdict(pairing, decision.verdict);
-    }
     let board = decision.board;
     let (white, black) = (
         decision.players.white.as_str(),
         decision.players.black.as_str(),
     );
+    for pairing in pairings {
+        let (first, second) = (pairing.white.as_str(), black_name(&pairing.against));
+        if pairing.board == board && first == white && second == black {
+            return check_verdict(pairing, decision.verdict);
+        }
+    }
     bail!("it is of other pairings: it has {white} against {black} at board {board}")
 }
 

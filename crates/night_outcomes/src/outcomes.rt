@@ -10,7 +10,7 @@ use lobby_words::Player;
 use night_links::{Answer, Link, refused};
 use night_report::Bye;
 use night_rounds::{
-    Against, Decision, Game, Note, Pairing, Verdict, decision_about, game_in, last_of, verdict_text,
+    Against, Decision, Note, Pairing, Verdict, decision_about, game_in, last_of, verdict_text,
 };
 use player_name::Name;
 use server_answers::{Refusal, Seats, Shown, refusal_of, result_text, shown_of};
@@ -108,14 +108,6 @@ fn going_on(ended: &Ended) -> &'static str {
         "its game goes on"
     } else {
         ""
-    }
-}
-
-// Why a board has no game.
-fn no_game(paired: &Game) -> &'static str {
-    match paired.times {
-        Some(_) => "no game was opened for it",
-        None => "it is not played on the server",
     }
 }
 
@@ -414,7 +406,11 @@ impl<'a> Outcomes<'a> {
                 self.found(rt, &pairing.white, &paired.black, game)
             }
             (Against::Game(paired), None) => {
-                Ok(Found::Unknown(String::from_str(self.alloc, no_game(paired))?))
+                let why = match paired.times {
+                    Some(_) => "no game was opened for it",
+                    None => "it is not played on the server",
+                };
+                Ok(Found::Unknown(String::from_str(self.alloc, why)?))
             }
         }
     }

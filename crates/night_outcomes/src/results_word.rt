@@ -6,7 +6,8 @@ use anyhow::Result;
 use lobby_players::players_of;
 use lobby_words::Player;
 use night_boards::{Paired, paired_of};
-use night_rounds::{Against, Decision, Note, Outcome, Pairing, bye_told, results};
+use night_report::Bye;
+use night_rounds::{Against, Decision, Note, Outcome, Pairing, results};
 use std::alloc::{AllocError, Global};
 use std::io::{self, Write};
 use std::net::{Net, TcpStream};
@@ -30,7 +31,10 @@ fn told_of<R: Files + AllocGlobal + Eprint>(
 fn no_result(against: &Against) -> &'static str {
     match against {
         Against::Game(_) => "*",
-        Against::Bye(bye) => bye_told(*bye),
+        Against::Bye(Bye::Pairing) => "bye",
+        Against::Bye(Bye::Full) => "bye F",
+        Against::Bye(Bye::Half) => "bye H",
+        Against::Bye(Bye::Zero) => "bye Z",
     }
 }
 

@@ -1,10 +1,8 @@
 -- Which decision of an arbiter counts for a board: the last one about it takes the place of those before, and of what
 -- the server says; where it says that the board has its result as it was played, none counts.
-use Rattle.std.specs.Prelude.{ℕ, ◌==◌, Bool, true, false, not, ◌||◌, List, [], ◌∷◌, codes, Option, None, Some}
-use Rattle.std.specs.Prelude.{if◌then◌else◌}
+use Rattle.std.specs.Prelude.{ℕ, ◌==◌, Bool, true, false, not, ◌||◌, List, [], ◌∷◌, Option, None, Some, if◌then◌else◌}
 use Rattle.std.specs.String.{string_bytes}
 use Rattle.night_report.specs.declared.cells.Bye.{Bye}
-use Rattle.night_report.specs.declared.cells.Bye.TheVariants as byes
 use Rattle.night_report.specs.declared.cells.Play.{Play}
 use Rattle.night_report.specs.declared.cells.Play.TheVariants as plays
 use Rattle.night_report.specs.declared.cells.Score.{Score}
@@ -47,21 +45,10 @@ if_counting (Some d) = if is_as_played d.verdict then None else Some d
 abbrev pub decision_about : ℕ → List Decision → Option Decision
 decision_about board decisions = if_counting (last_about board decisions)
 
--- a bye, and a verdict, as a round's results tell it
-abbrev pub bye_told : Bye → List ℕ
-bye_told byes.Pairing = codes "bye"
-bye_told byes.Full = codes "bye F"
-bye_told byes.Half = codes "bye H"
-bye_told byes.Zero = codes "bye Z"
-
-abbrev pub verdict_told : Verdict → List ℕ
-verdict_told (verdicts.Bye bye) = bye_told bye
-verdict_told verdict = verdict_text verdict
-
 -- the result and the article that count, where the server tells these
 abbrev pub result_by : Option Decision → List ℕ → List ℕ
 result_by None told = told
-result_by (Some d) told = verdict_told d.verdict
+result_by (Some d) told = verdict_text d.verdict
 
 abbrev pub article_by : Option Decision → List ℕ → List ℕ
 article_by None told = told

@@ -20,27 +20,13 @@ fn last_about(decisions: &[Decision], board: u32) -> Option<&Decision>
     found
 }
 
-// Whether a verdict gives a board no result of its own.
-fn is_as_played(verdict: Verdict) -> bool
-    ensures { result ≡ spec.is_as_played verdict }
-{
-    matches!(verdict, Verdict::AsPlayed)
-}
-
-// Whether a verdict is of a bye.
-fn is_bye(verdict: Verdict) -> bool
-    ensures { result ≡ spec.is_bye verdict }
-{
-    matches!(verdict, Verdict::Bye(_))
-}
-
 /// Whether a verdict may be that of a board: of a bye it is one of a bye, of a game none, and `as-played` of either.
 pub fn may_have(against: &Against, verdict: Verdict) -> bool
     ensures { result ≡ spec.may_have against.now verdict }
 {
     match against {
-        Against::Bye(_) => is_bye(verdict) || is_as_played(verdict),
-        Against::Game(_) => !is_bye(verdict),
+        Against::Bye(_) => matches!(verdict, Verdict::Bye(_) | Verdict::AsPlayed),
+        Against::Game(_) => !matches!(verdict, Verdict::Bye(_)),
     }
 }
 
@@ -50,32 +36,10 @@ pub fn decision_about(decisions: &[Decision], board: u32) -> Option<&Decision>
     ensures { option_copied result ≡ spec.decision_about board decisions.entry.now }
 {
     let decision = last_about(decisions, board)?;
-    if is_as_played(decision.verdict) {
+    if matches!(decision.verdict, Verdict::AsPlayed) {
         None
     } else {
         Some(decision)
-    }
-}
-
-/// A bye as the results of a round tell it.
-pub fn bye_told(bye: Bye) -> &'static str
-    ensures { result.now ≡ spec.bye_told bye }
-{
-    match bye {
-        Bye::Pairing => "bye",
-        Bye::Full => "bye F",
-        Bye::Half => "bye H",
-        Bye::Zero => "bye Z",
-    }
-}
-
-// A verdict as they tell it.
-fn verdict_told(verdict: Verdict) -> &'static str
-    ensures { result.now ≡ spec.verdict_told verdict }
-{
-    match verdict {
-        Verdict::Bye(bye) => bye_told(bye),
-        verdict => verdict_text(verdict),
     }
 }
 
@@ -85,7 +49,7 @@ pub fn result_by<'a>(decision: Option<&'a Decision>, told: &'a str) -> &'a str
 {
     match decision {
         None => told,
-        Some(decision) => verdict_told(decision.verdict),
+        Some(decision) => verdict_text(decision.verdict),
     }
 }
 
@@ -141,34 +105,18 @@ fn score_of(verdict: Verdict) -> Score
     }
 }
 
-// How a game came to a verdict: who lost did not come, not both made a move, or else over the board.
-fn play_of(verdict: Verdict) -> Play
-    ensures { result ≡ spec.play_of verdict }
+// How a board came to a verdict: who lost did not come, not both sides made a move, or else over the board, but where
+// not both have by what came of its game.
+fn play_by(verdict: Verdict, told: Play) -> Play
+    ensures { result ≡ spec.play_by (spec.play_of verdict) told }
 {
     match verdict {
         Verdict::WhiteCame | Verdict::BlackCame | Verdict::NobodyCame => Play::Forfeit,
         Verdict::WhiteUnrated | Verdict::BlackUnrated | Verdict::DrawUnrated => Play::Short,
-        _ => Play::Board,
-    }
-}
-
-// How a board came to its result that was decided as one that was played, by what came of its game: not both sides may
-// have made a move.
-fn as_played(told: Play) -> Play
-    ensures { result ≡ spec.as_played told }
-{
-    match told {
-        Play::Board => Play::Board,
-        Play::Short | Play::Forfeit => Play::Short,
-    }
-}
-
-fn play_by(decided: Play, told: Play) -> Play
-    ensures { result ≡ spec.play_by decided told }
-{
-    match decided {
-        Play::Board => as_played(told),
-        Play::Short | Play::Forfeit => decided,
+        _ => match told {
+            Play::Board => Play::Board,
+            Play::Short | Play::Forfeit => Play::Short,
+        },
     }
 }
 
@@ -180,18 +128,8 @@ pub fn counted(decisions: &[Decision], board: u32, told: Scored) -> Scored
         None => told,
         Some(decision) => Scored {
             score: score_of(decision.verdict),
-            play: play_by(play_of(decision.verdict), told.play),
+            play: play_by(decision.verdict, told.play),
         },
-    }
-}
-
-// The bye of a verdict; this one of another's.
-fn bye_or(verdict: Verdict, told: Bye) -> Bye
-    ensures { result ≡ spec.bye_or verdict told }
-{
-    match verdict {
-        Verdict::Bye(bye) => bye,
-        _ => told,
     }
 }
 
@@ -201,6 +139,9 @@ pub fn bye_counted(decisions: &[Decision], board: u32, told: Bye) -> Bye
 {
     match decision_about(decisions, board) {
         None => told,
-        Some(decision) => bye_or(decision.verdict, told),
+        Some(decision) => match decision.verdict {
+            Verdict::Bye(bye) => bye,
+            _ => told,
+        },
     }
 }
