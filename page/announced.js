@@ -3,7 +3,7 @@
 // board.
 
 import { t } from './language.js';
-import { AS_PLAYED, readDecided } from './lines.js';
+import { AS_PLAYED, BYES, readDecided } from './lines.js';
 import { byId, read, setText, write } from './make.js';
 
 const HIDDEN = 'hidden-announcement';  // of this tab: what was announced as it was hidden
@@ -30,7 +30,8 @@ export function announcedTold(text) {
 export function decidedTold(line, { event, names, isOwn }) {
   const { round, board, verdict, result, score, why } = readDecided(line), banner = byId('decided');
   if (!isOwn && !banner.hidden && !banner.classList.contains('others')) return;
-  const words = verdict === AS_PLAYED ? t`as it was played` : verdict === result ? score : t`${score}, not rated`;
+  const words = verdict === AS_PLAYED ? t`as it was played` : verdict in BYES ? `${t`bye`} ${score}`
+    : verdict === result ? score : t`${score}, not rated`;
   setText(byId('decided-words'), names
     ? t`The arbiter has decided board ${board} of round ${round}, ${names}: ${words}. Why: ${why}`
     : t`The arbiter has decided board ${board} of round ${round}: ${words}. Why: ${why}`);

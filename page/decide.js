@@ -3,7 +3,7 @@
 import { MINUTE, isAbsent } from './absent.js';
 import { findKept, toldOf } from './kept.js';
 import { t } from './language.js';
-import { AS_PLAYED, readRefusal, readShow } from './lines.js';
+import { AS_PLAYED, BYES, readRefusal, readShow } from './lines.js';
 import { byId, make, setText } from './make.js';
 import { mayMate } from './material.js';
 import { plain, toldWords, untold } from './plain.js';
@@ -72,13 +72,13 @@ export class Decision {
     else byId('decide-a-result').open = true;
   }
 
-  /** Asks about a board by its round, also where it has no game on the server, as one that was played elsewhere. */
+  /** Asks about a board by its round, also where it has no game on the server, as one that was played elsewhere, or a
+   * bye. */
   async lookUpBoard(round, board) {
     await this.app.round.look();
     const found = this.app.round.boardAt(round, board);
-    setText(byId('decide-found'), !found ? t`No such board was told of this round.`
-      : found.bye ? t`This board has a bye: its sign in the pairings, U, F, H or Z, says what it is worth.` : '');
-    if (!found || found.bye) byId('decide-a-result').open = true;
+    setText(byId('decide-found'), found ? '' : t`No such board was told of this round.`);
+    if (!found) byId('decide-a-result').open = true;
     else if (found.game) await this.lookUp(found.game);
     else this.askBoard(found);
   }
@@ -94,6 +94,7 @@ export class Decision {
     const { number } = standing, fields = this.form.elements;
     const [white, black] = [standing.white, standing.black].map((name) => this.nameOf(name));
     Object.assign(this, { about: number, standing });
+    this.offer(false);
     this.put(NOTHING);
     this.fill(standing);
     fields.board.value = '';
@@ -112,19 +113,28 @@ export class Decision {
   }
 
   /** Asks what a board shall have that has no game. */
-  askBoard({ round, board, white, black }) {
+  askBoard({ round, board, white, black, names, bye, result }) {
     const fields = this.form.elements;
     Object.assign(this, { about: NO_NUMBER, standing: { number: NO_NUMBER, white, black, ply: AGREED }, isKnown: true });
     this.likely = NOTHING;
+    this.offer(Boolean(bye));
     this.put(NOTHING);
     Object.assign(fields.round, { value: String(round) });
     Object.assign(fields.board, { value: String(board) });
-    setText(byId('decide-title'),
-      t`Decide the result of board ${board} of round ${round}: ${this.nameOf(white)} – ${this.nameOf(black)}`);
-    setText(byId('decide-stands'), t`No game is known of this board.`);
+    setText(byId('decide-title'), t`Decide the result of board ${board} of round ${round}: ${names}`);
+    setText(byId('decide-stands'), bye ? `${t`bye`} ${resultText(result)}` : t`No game is known of this board.`);
     setText(byId('decide-law'), '');
     this.render();
     this.dialog.showModal();
+  }
+
+  /** Of a bye what it may be worth is to be chosen from, else the results of a game. */
+  offer(isBye) {
+    const list = this.form.elements.result, last = list.lastElementChild;
+    for (const one of list.querySelectorAll('.bye')) one.remove();
+    for (const one of list.options) one.hidden = one.disabled = isBye && Boolean(one.value) && one !== last;
+    if (isBye) last.before(...Object.entries(BYES).map(([sign, worth]) => make('option', { value: sign, class: 'bye' },
+      `${sign}: ${t`bye`} ${resultText(worth)}`)));
   }
 
   nameOf(name) {
@@ -164,7 +174,8 @@ export class Decision {
   /** Another result is chosen: what was filled in for the one before goes with it. */
   follow(result) {
     if (!this.isUntouched(['article', 'reason'])) return;
-    const reason = absentWords(result) || (this.about === NO_NUMBER && result !== AS_PLAYED ? t`played elsewhere` : '');
+    const isElsewhere = this.about === NO_NUMBER && result !== AS_PLAYED && !(result in BYES);
+    const reason = absentWords(result) || (isElsewhere ? t`played elsewhere` : '');
     this.put(result === this.likely.result ? this.likely : { result, article: '', reason });
   }
 

@@ -105,9 +105,12 @@ export const AS_PLAYED = 'as-played';
 /** Decisions that a game is not rated, since not both sides made a move, and what the round's file has of them. */
 const UNRATED = { 'W/L': '1-0', 'L/W': '0-1', 'D/D': '1/2-1/2' };
 
+/** What a bye is worth, by its sign. */
+export const BYES = { U: '1', F: '1', H: '1/2', Z: '0' };
+
 /** The result of a decision, as the round's file tells it. */
 export function resultBy(verdict) {
-  return UNRATED[verdict] || verdict;
+  return UNRATED[verdict] || BYES[verdict] || verdict;
 }
 
 /** `decided ROUND BOARD RESULT ARTICLE REASON` as {round, board, verdict, result, score, why}, with the article before the

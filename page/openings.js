@@ -2,10 +2,11 @@
 // arbiter's word. The table is looked at first, so that no board gets a second game.
 
 import { t } from './language.js';
-import { readPgn, readRefusal, readRows, readTimes, timesOfOpen } from './lines.js';
+import { BYES, readPgn, readRefusal, readRows, readTimes, timesOfOpen } from './lines.js';
 import { byId, copy, make, save, setText } from './make.js';
 import { isOf } from './pairing.js';
 import { folded } from './plain.js';
+import { resultText } from './round.js';
 import { arbiterWords, timesWords } from './words.js';
 
 const HEADER = 'board,white,black,times,start', FIELDS = 5;
@@ -15,8 +16,6 @@ const UNTOLD = -1;                   // in the place of a game's number
 const SETTLES = 700;                 // milliseconds between two looks at the table
 const ZONE = /(Z|[+-]\d\d:\d\d)$/;
 const SEPARATORS = [';', '\t', ','];  // as spreadsheets save and copy
-/** The points of a bye by its sign, as `chess-club start` reads it. */
-const BYES = { '': '1', U: '1', F: '1', H: '½', Z: '0' };
 const MOST_NAMED = 12;               // players without a board
 
 export class Openings {
@@ -61,7 +60,7 @@ export class Openings {
 
   /** The pairings as chess-club start takes them. */
   csv() {
-    return [HEADER, ...this.boards.map(({ row }) => row), ''].join('\n');
+    return [HEADER, ...this.boards.map(rowOf), ''].join('\n');
   }
 
   // ---- opening
@@ -165,13 +164,10 @@ export class Openings {
     return `round${this.round()}.csv`;
   }
 
-  /** What notes on the club's machine which games are which board's; boards that are played elsewhere are left out. */
+  /** What notes on the club's machine which games are which board's. */
   command() {
-    const elsewhere = this.boards.filter(({ isElsewhere }) => isElsewhere).map(({ board }) => ` -e '^${board},'`).join('');
-    const pairings = `FOLDER/${this.file()}`, opened = elsewhere ? 'FOLDER/opened.csv' : pairings;
     const taken = this.boards.filter(({ game }) => game).map(({ board, game }) => ` --take ${board}=${game}`).join('');
-    return taken && (elsewhere && `grep -v${elsewhere} ${pairings} >${opened} && `)
-      + `./chess-club start --pairings ${opened} --round-file FOLDER/round${this.round()}.games`
+    return taken && `./chess-club start --pairings FOLDER/${this.file()} --round-file FOLDER/round${this.round()}.games`
       + ` --lobby 127.0.0.1:${location.port || '8080'} --token-file FOLDER/arbiter.link${taken}`;
   }
 
@@ -206,15 +202,15 @@ export class Openings {
     const { board, white, black, line, start, game, said, bye } = one, [first, second] = [white, black].map((name) =>
       this.app.nameWords(name)), times = timesWords(readTimes(timesOfOpen(`open white ${line}`)));
     return make('li', { class: game ? 'done' : said ? 'open' : 'still' }, t`Board ${board}`, ': ',
-      black ? `${first} – ${second}, ${times}` : t`${first} has no opponent: a bye worth ${BYES[bye]}`,
+      black ? `${first} – ${second}${times && `, ${times}`}` : t`${first} has no opponent: a bye worth ${resultText(BYES[bye || 'U'])}`,
       start > Date.now() && `, ${t`from ${momentWords(start)} on`}`, said && `. ${said}`,
       game > 0 && ' ', game > 0 && make('a', { href: `#/game/${game}` }, t`Look at game ${game}`),
       black && !game && this.elsewhere(one));
   }
 
-  /** Whether a board is played on another board, as one of wood: no game is opened for it. */
+  /** Whether a board is played on another board, as one of wood: no game is opened for it, nor can be without times. */
   elsewhere(board) {
-    const box = make('input', { type: 'checkbox', checked: Boolean(board.isElsewhere), disabled: Boolean(this.isBusy) });
+    const box = make('input', { type: 'checkbox', checked: board.isElsewhere, disabled: this.isBusy || !board.row[3] });
     box.addEventListener('change', () => {
       board.isElsewhere = box.checked;
       this.render();
@@ -253,9 +249,10 @@ function readCsv(text) {
   return rows.filter((row) => row.some(Boolean));
 }
 
-/** The boards of a round: {board, white, black, line, start, row}, `line` having the times as `open` has them, `black`
- * being empty where White has no opponent, `bye` the sign of that, `start` in milliseconds, `row` with the short names; or
- * what is wrong with the first row that is. */
+/** The boards of a round: {board, white, black, line, start, isElsewhere, row}, `line` having the times as `open` has
+ * them, `black` being empty where White has no opponent, `bye` the sign of that, `start` in milliseconds, `isElsewhere`
+ * true where there are no times, since it is not played on the server, `row` with the short names; or what is wrong with
+ * the first row that is. */
 function readPairings(text, players) {
   const [head, ...rows] = readCsv(text.replace(/^\ufeff/, '')) || [], boards = [], seen = new Set();
   if (!head || head.join().toLowerCase() !== HEADER) return { boards, wrong: t`The first line has to be ${HEADER}` };
@@ -282,15 +279,21 @@ function meant(said, players) {
 
 function boardOf(row, white, black = '') {
   const [board, , , said, begins] = row, bye = black || begins ? null : (said || '').toUpperCase();
-  const times = bye === null ? said : bye, short = [board, white, black, times, begins].join();
+  const times = bye === null ? said : bye, isElsewhere = Boolean(black) && !times;
   const { initial, increment, moves, second } = readTimes(times || '') || { initial: NaN };
   const line = moves ? `${moves}/${initial}:${second} ${increment}` : `${initial} ${increment}`;
-  return { board, white, black, line, start: begins ? Date.parse(begins) : 0, game: 0, said: '', bye, row: short };
+  return { board, white, black, line, start: begins ? Date.parse(begins) : 0, game: 0, said: '', bye, isElsewhere,
+    row: [board, white, black, times, begins] };
+}
+
+/** A board's row in the round's file: it has no times where it is not played on the server. */
+function rowOf({ row: [board, white, black, times, begins], isElsewhere }) {
+  return [board, white, black, isElsewhere ? '' : times, begins].join();
 }
 
 /** What is wrong with a row, of which a seat is not one player's, or a field stands twice, where these are given; else
  * ''. */
-function wrongWith(row, { line, start, bye }, unclear, twice) {
+function wrongWith(row, { line, start, bye, isElsewhere }, unclear, twice) {
   const [board, , , times, begins] = row;
   if (row.length !== FIELDS) return t`it has not five fields`;
   if (!/^[1-9]\d{0,5}$/.test(board)) return t`the board is no number`;
@@ -298,7 +301,8 @@ function wrongWith(row, { line, start, bye }, unclear, twice) {
   if (unclear) return t`${unclear.said} is the full name of ${unclear.meant.join(', ')}: write which of them it is`;
   if (twice !== undefined) return t`${twice} stands twice`;
   if (Number.isNaN(start) || begins && !ZONE.test(begins)) return t`the start is not as 2026-11-26T19:30Z is`;
-  if (bye !== null) return bye in BYES ? '' : t`the sign of a bye is none of U, F, H and Z`;
+  if (bye !== null) return (bye || 'U') in BYES ? '' : t`the sign of a bye is none of U, F, H and Z`;
+  if (isElsewhere) return '';
   if (timesOfOpen(`open white ${line}`) !== times) return t`the times are not as 300+2 is`;
   // (the page writes 15+10 for 15 minutes, and this file has seconds)
   const isShort = readTimes(times).initial < LEAST;

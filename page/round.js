@@ -132,7 +132,8 @@ export class RoundFile {
     const found = boards && boards.find((one) => one.board === board);
     const player = (number) => this.told.players[number - 1] || { name: '', full: '' };
     if (!found) return null;
-    const [white, black] = [player(found.white), player(found.black)], names = `${white.full} – ${black.full}`;
+    const [white, black] = [player(found.white), player(found.black)];
+    const names = found.bye ? white.full : `${white.full} – ${black.full}`;
     return { ...found, round, white: white.name, black: black.name, names };
   }
 

@@ -993,7 +993,7 @@ export const WORDS = {
   'Game {0} goes on: first its result is entered.': 'Partie {0} läuft noch: zuerst wird ihr Ergebnis eingetragen.',
   'No such board was told of this round.': 'Von dieser Runde ist kein solches Brett bekannt.',
   'No game is known of this board.': 'Von diesem Brett ist keine Partie bekannt.',
-  'Decide the result of board {0} of round {1}: {2} – {3}': 'Das Ergebnis von Brett {0} der Runde {1} entscheiden: {2} – {3}',
+  'Decide the result of board {0} of round {1}: {2}': 'Das Ergebnis von Brett {0} der Runde {1} entscheiden: {2}',
   'Board {0} of round {1} is the bye of {2}.': 'Brett {0} der Runde {1} ist das Freilos von {2}.',
   'Board {0} of round {1} is of {2} and {3}, and not of these two.':
     'An Brett {0} der Runde {1} sitzen {2} und {3}, und nicht diese beiden.',
@@ -1028,8 +1028,6 @@ export const WORDS = {
   'the sign of a bye is none of U, F, H and Z': 'das Zeichen für spielfrei ist keines von U, F, H und Z',
   'Save the pairings': 'Ansetzungen speichern',
   'played elsewhere': 'anderswo gespielt',
-  'This board has a bye: its sign in the pairings, U, F, H or Z, says what it is worth.':
-    'Dieses Brett ist spielfrei: was es wert ist, sagt sein Zeichen in den Ansetzungen, U, F, H oder Z.',
   'Boards without a game, as those that are played elsewhere:':
     'Bretter ohne Partie, wie die, an denen anderswo gespielt wird:',
 };

@@ -984,7 +984,7 @@ export const WORDS = {
   'Game {0} goes on: first its result is entered.': 'La partida {0} sigue: primero se anota su resultado.',
   'No such board was told of this round.': 'De esta ronda no se conoce tal tablero.',
   'No game is known of this board.': 'De este tablero no se conoce ninguna partida.',
-  'Decide the result of board {0} of round {1}: {2} – {3}': 'Decidir el resultado del tablero {0} de la ronda {1}: {2} – {3}',
+  'Decide the result of board {0} of round {1}: {2}': 'Decidir el resultado del tablero {0} de la ronda {1}: {2}',
   'Board {0} of round {1} is the bye of {2}.': 'El tablero {0} de la ronda {1} es el descanso de {2}.',
   'Board {0} of round {1} is of {2} and {3}, and not of these two.':
     'El tablero {0} de la ronda {1} es de {2} y {3}, y no de estos dos.',
@@ -1019,8 +1019,6 @@ export const WORDS = {
   'the sign of a bye is none of U, F, H and Z': 'el signo del descanso no es ninguno de U, F, H y Z',
   'Save the pairings': 'Guardar los emparejamientos',
   'played elsewhere': 'jugada en otro lugar',
-  'This board has a bye: its sign in the pairings, U, F, H or Z, says what it is worth.':
-    'Este tablero descansa: lo que vale lo dice su signo en los emparejamientos, U, F, H o Z.',
   'Boards without a game, as those that are played elsewhere:':
     'Tableros sin partida, como los que se juegan en otro lugar:',
 };

@@ -1000,8 +1000,7 @@ export const WORDS = {
   'Game {0} goes on: first its result is entered.': 'La partie {0} continue : son résultat est d’abord à inscrire.',
   'No such board was told of this round.': 'Cette ronde n’a pas d’échiquier de ce numéro.',
   'No game is known of this board.': 'On ne connaît pas de partie de cet échiquier.',
-  'Decide the result of board {0} of round {1}: {2} – {3}':
-    'Décider le résultat de l’échiquier {0} de la ronde {1} : {2} – {3}',
+  'Decide the result of board {0} of round {1}: {2}': 'Décider le résultat de l’échiquier {0} de la ronde {1} : {2}',
   'Board {0} of round {1} is the bye of {2}.': 'L’échiquier {0} de la ronde {1} est l’exemption de {2}.',
   'Board {0} of round {1} is of {2} and {3}, and not of these two.':
     'L’échiquier {0} de la ronde {1} est celui de {2} et {3}, et non de ces deux-là.',
@@ -1036,8 +1035,6 @@ export const WORDS = {
   'the sign of a bye is none of U, F, H and Z': 'le signe de l’exemption n’est aucun de U, F, H et Z',
   'Save the pairings': 'Enregistrer les appariements',
   'played elsewhere': 'jouée ailleurs',
-  'This board has a bye: its sign in the pairings, U, F, H or Z, says what it is worth.':
-    'Cet échiquier est exempt : ce que cela vaut, son signe le dit dans les appariements, U, F, H ou Z.',
   'Boards without a game, as those that are played elsewhere:':
     'Échiquiers sans partie, comme ceux qui sont joués ailleurs :',
 };

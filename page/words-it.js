@@ -990,8 +990,7 @@ export const WORDS = {
   'Game {0} goes on: first its result is entered.': 'La partita {0} continua: prima si registra il suo risultato.',
   'No such board was told of this round.': 'Di questo turno non è nota tale scacchiera.',
   'No game is known of this board.': 'Di questa scacchiera non è nota alcuna partita.',
-  'Decide the result of board {0} of round {1}: {2} – {3}':
-    'Decidere il risultato della scacchiera {0} del turno {1}: {2} – {3}',
+  'Decide the result of board {0} of round {1}: {2}': 'Decidere il risultato della scacchiera {0} del turno {1}: {2}',
   'Board {0} of round {1} is the bye of {2}.': 'La scacchiera {0} del turno {1} è il riposo di {2}.',
   'Board {0} of round {1} is of {2} and {3}, and not of these two.':
     'La scacchiera {0} del turno {1} è di {2} e {3}, e non di questi due.',
@@ -1025,8 +1024,6 @@ export const WORDS = {
   'the sign of a bye is none of U, F, H and Z': 'il segno del riposo non è nessuno fra U, F, H e Z',
   'Save the pairings': 'Salva gli abbinamenti',
   'played elsewhere': 'giocata altrove',
-  'This board has a bye: its sign in the pairings, U, F, H or Z, says what it is worth.':
-    'Questa scacchiera riposa: quanto vale lo dice il suo segno negli abbinamenti, U, F, H o Z.',
   'Boards without a game, as those that are played elsewhere:':
     'Scacchiere senza partita, come quelle giocate altrove:',
 };

@@ -991,7 +991,7 @@ export const WORDS = {
   'Game {0} goes on: first its result is entered.': 'Partij {0} gaat door: eerst wordt haar uitslag ingevoerd.',
   'No such board was told of this round.': 'Van deze ronde is zo’n bord niet bekend.',
   'No game is known of this board.': 'Van dit bord is geen partij bekend.',
-  'Decide the result of board {0} of round {1}: {2} – {3}': 'De uitslag van bord {0} van ronde {1} beslissen: {2} – {3}',
+  'Decide the result of board {0} of round {1}: {2}': 'De uitslag van bord {0} van ronde {1} beslissen: {2}',
   'Board {0} of round {1} is the bye of {2}.': 'Bord {0} van ronde {1} is de vrije ronde van {2}.',
   'Board {0} of round {1} is of {2} and {3}, and not of these two.':
     'Aan bord {0} van ronde {1} zitten {2} en {3}, en niet deze twee.',
@@ -1024,8 +1024,6 @@ export const WORDS = {
   'the sign of a bye is none of U, F, H and Z': 'het teken voor vrij is geen van U, F, H en Z',
   'Save the pairings': 'Indeling bewaren',
   'played elsewhere': 'elders gespeeld',
-  'This board has a bye: its sign in the pairings, U, F, H or Z, says what it is worth.':
-    'Dit bord is vrij: wat het waard is, zegt zijn teken in de indeling, U, F, H of Z.',
   'Boards without a game, as those that are played elsewhere:':
     'Borden zonder partij, zoals die elders gespeeld worden:',
 };

@@ -979,8 +979,7 @@ export const WORDS = {
   'Game {0} goes on: first its result is entered.': 'Partia {0} trwa: najpierw zapisuje się jej wynik.',
   'No such board was told of this round.': 'W tej rundzie nie ma takiej szachownicy.',
   'No game is known of this board.': 'Partia tej szachownicy nie jest znana.',
-  'Decide the result of board {0} of round {1}: {2} – {3}':
-    'Rozstrzygnij wynik szachownicy {0} rundy {1}: {2} – {3}',
+  'Decide the result of board {0} of round {1}: {2}': 'Rozstrzygnij wynik szachownicy {0} rundy {1}: {2}',
   'Board {0} of round {1} is the bye of {2}.': 'Szachownica {0} rundy {1} to pauza: {2}.',
   'Board {0} of round {1} is of {2} and {3}, and not of these two.':
     'Przy szachownicy {0} rundy {1} grają {2} i {3}, a nie tych dwoje.',
@@ -1014,8 +1013,6 @@ export const WORDS = {
   'the sign of a bye is none of U, F, H and Z': 'znak pauzy nie jest żadnym z U, F, H i Z',
   'Save the pairings': 'Zapisz kojarzenia',
   'played elsewhere': 'rozegrana gdzie indziej',
-  'This board has a bye: its sign in the pairings, U, F, H or Z, says what it is worth.':
-    'Na tej szachownicy jest pauza: ile jest warta, mówi jej znak w kojarzeniach, U, F, H lub Z.',
   'Boards without a game, as those that are played elsewhere:':
     'Szachownice bez partii, jak te, na których gra się gdzie indziej:',
 };

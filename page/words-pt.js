@@ -977,8 +977,7 @@ export const WORDS = {
   'Game {0} goes on: first its result is entered.': 'A partida {0} continua: primeiro se registra o resultado.',
   'No such board was told of this round.': 'Desta ronda não se conhece tal tabuleiro.',
   'No game is known of this board.': 'Deste tabuleiro não se conhece nenhuma partida.',
-  'Decide the result of board {0} of round {1}: {2} – {3}':
-    'Decidir o resultado do tabuleiro {0} da ronda {1}: {2} – {3}',
+  'Decide the result of board {0} of round {1}: {2}': 'Decidir o resultado do tabuleiro {0} da ronda {1}: {2}',
   'Board {0} of round {1} is the bye of {2}.': 'O tabuleiro {0} da ronda {1} é a folga de {2}.',
   'Board {0} of round {1} is of {2} and {3}, and not of these two.':
     'O tabuleiro {0} da ronda {1} é de {2} e {3}, e não destes dois.',
@@ -1011,8 +1010,6 @@ export const WORDS = {
   'the sign of a bye is none of U, F, H and Z': 'o sinal da folga não é nenhum de U, F, H e Z',
   'Save the pairings': 'Salvar os emparceiramentos',
   'played elsewhere': 'jogada noutro lugar',
-  'This board has a bye: its sign in the pairings, U, F, H or Z, says what it is worth.':
-    'Este tabuleiro está isento: quanto vale diz o seu sinal nos emparceiramentos, U, F, H ou Z.',
   'Boards without a game, as those that are played elsewhere:':
     'Tabuleiros sem partida, como os que são jogados noutro lugar:',
 };

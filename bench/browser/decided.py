@@ -11,7 +11,7 @@ from page_lines import by_lines
 from readable import well_on_screens
 from round import round_told, serves
 
-PAIRINGS = 'board,white,black,times,start\n1,ann,bob,20,\n2,cid,dee,300,\n'
+PAIRINGS = 'board,white,black,times,start\n1,ann,bob,20,\n2,cid,dee,300,\n3,fay,,U,\n'
 # Black's knight never mates a king that has a queen alone.
 KNIGHT = '8/8/4k3/8/8/2n5/8/4KQ2 w - - 0 1'
 CHOSEN = '''const { result } = document.querySelector('#decide-form').elements; result.value = arguments[0];
@@ -177,9 +177,13 @@ def a_decision(hall):
     put(hall.lobby.kept, KEPT)
     for number, told in ((runs, 'Game %s goes on' % runs), ('4000000001', 'There is no game of this number.')):
         sue.type('#decide-find [name=number]', number).click('#decide-find button').reads('#decide-found', told)
-    for board, told in (('3', 'This board has a bye: its sign'), ('9', 'No such board was told')):
-        sue.type('#decide-board-find [name=round]', '1').type('#decide-board-find [name=board]', board)
-        sue.click('#decide-board-find button').reads('#decide-found', told)
+    sue.type('#decide-board-find [name=round]', '1').type('#decide-board-find [name=board]', '9')
+    sue.click('#decide-board-find button').reads('#decide-found', 'No such board was told')
+    sue.type('#decide-board-find [name=board]', '3').click('#decide-board-find button')
+    sue.reads('#decide-title', 'board 3 of round 1: Wilhelmina Featherstonehaugh-Cholmondeley').shows('#decide-stands', 'bye 1', 'what it is worth')
+    sue.run(CHOSEN, 'H').type('#decide-form [name=reason]', 'asked for before the round')
+    decides(hall, 1, 'The arbiter has decided board 3 of round 1, Wilhelmina Featherstonehaugh-Cholmondeley: bye ½. Why: '
+            'asked for before the round', board=3, result='H', white='fay', black='')
     sue.reads('#decide-boards', 'Round 2, board 4: ').click('#decide-boards button')
     sue.reads('#decide-title', 'board 4 of round 2')
     for result, why in (('0-1', 'played elsewhere'), ('-/+', 'White did not come in time'), ('as-played', '')):

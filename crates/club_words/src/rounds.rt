@@ -27,9 +27,10 @@ Where it cannot know which game is a board's, or whether it has one, it says so,
 board alone, and ends with status 1. Look at the games then, and give it again with --take for the
 game that is the board's, or with --after where none up to a game is: it is opened then.
 
-A row of --pairings with White and no Black is a bye: nothing is opened for it. By
---players a name that is not in that file is refused before anything is opened. So is an
-initial time of less than 60 seconds, since 15+10 is 15 seconds here, but with --short.
+A row of --pairings with White and no Black is a bye: nothing is opened for it, nor for one
+without times, which is not played on the server. By --players a name that is not in that file
+is refused before anything is opened. So is an initial time of less than 60 seconds, since 15+10
+is 15 seconds here, but with --short.
 
 Exit status: 0; 1 with what is wrong on standard error; 2 for words that the program does
 not know.
@@ -69,8 +70,9 @@ what the server says, for results, trf and standings that are given this file.
 
 The result is 1-0, 0-1, 1/2-1/2, 1/2-0 or 0-1/2 (half a point for one alone), 0-0 (both have
 lost), or of who did not come +/-, -/+ or -/-, with a sign of equality before the last two:
---result=-/+; W/L, L/W or D/D of a game that is not rated, since not both sides made a move; or
-as-played, by which what was decided before counts no more, and what the server says does again.
+--result=-/+; W/L, L/W or D/D of a game that is not rated, since not both sides made a move; of a
+bye U, F, H or Z, its sign in a report; or as-played, by which what was decided before counts no
+more, and what the server says does again, or the pairings of a bye.
 
 Exit status: 0; 1 with what is wrong on standard error; 2 for words that the program does
 not know.
@@ -155,7 +157,7 @@ const BOARD: OptionText = OptionText {
 
 // The results that there are.
 const RESULTS_THERE: &str =
-    "1-0, 0-1, 1/2-1/2, 1/2-0, 0-1/2, 0-0, +/-, -/+, -/-, W/L, L/W, D/D or as-played";
+    "1-0, 0-1, 1/2-1/2, 1/2-0, 0-1/2, 0-0, +/-, -/+, -/-, W/L, L/W, D/D, U, F, H, Z or as-played";
 
 const RESULT: OptionText = OptionText {
     name: "result",

@@ -23,6 +23,7 @@ pub struct Board {
     pub alloc: Global,
     pub pairing: Pairing,
     pub game: Game,
+    pub times: Times,
     /// The game that the arbiter said is its.
     pub taken: Option<u32>,
 }
@@ -96,7 +97,7 @@ impl Board {
     // Pairs it. The answer, as that a game was opened, may be lost: what was noted before tells which games may be it.
     fn pair<T: Table>(&self, lobby: &mut T, file: &mut RoundFile) -> Result<()> {
         let (white, black) = (self.pairing.white.as_str(), self.game.black.as_str());
-        let line = pairing_of(self.alloc, white, black, self.game.times)?;
+        let line = pairing_of(self.alloc, white, black, self.times)?;
         let answer = lobby.ask(line.as_str())?;
         let game = paired_in(white, answer.first.as_str())?;
         file.put(self.note(Stage::Joined(game)))
@@ -118,7 +119,7 @@ impl Board {
     // The games that may be its and have its times, since it was noted that it is about to be opened, and is newer than
     // this one.
     fn games<T: Table>(&self, lobby: &mut T, older: Option<u32>, rows: &[Row]) -> Result<Vec<u32>> {
-        let times = times_text(self.alloc, self.game.times)?;
+        let times = times_text(self.alloc, self.times)?;
         let found = candidates(self.alloc, older, &self.pairing.white, rows)?;
         with_times(self.alloc, lobby, found.as_slice(), times.as_str())
     }
@@ -241,15 +242,18 @@ fn taken_of(takes: &[(u32, u32)], number: u32) -> Option<u32> {
     taken
 }
 
-/// The boards of pairings that have a game, with the games that the arbiter said are theirs.
+/// The boards of pairings that are played on the server, with the games that the arbiter said are theirs.
 pub fn boards_of(alloc: Global, pairings: &[Pairing], takes: &[(u32, u32)]) -> Result<Vec<Board>> {
     let mut boards = Vec::new(alloc);
     for pairing in pairings {
-        if let Against::Game(game) = pairing.against {
+        if let Against::Game(game) = pairing.against
+            && let Some(times) = game.times
+        {
             boards.push(Board {
                 alloc,
                 pairing: *pairing,
                 game,
+                times,
                 taken: taken_of(takes, pairing.board),
             })?;
         }

@@ -50,13 +50,15 @@ fn check_time(row: usize, seconds: u32) -> Result<()> {
     )
 }
 
-/// Whether each game has a minute at least. It fails at the first that has less.
+/// Whether each game that has times has a minute at least. It fails at the first that has less.
 pub fn check_times(pairings: &[Pairing]) -> Result<()> {
     let mut row: usize = 1;
     for pairing in pairings {
         row = row.saturating_add(1);
-        if let Against::Game(game) = pairing.against {
-            check_time(row, game.times.initial)?;
+        if let Against::Game(game) = pairing.against
+            && let Some(times) = game.times
+        {
+            check_time(row, times.initial)?;
         }
     }
     Ok(())

@@ -11,7 +11,7 @@ use anyhow::{Context, Error, Result};
 use command_lines::{tell, unix_time};
 use jiff::Timestamp;
 use lobby_players::players_of;
-use night_rounds::Pairing;
+use night_rounds::{Against, Pairing};
 use std::alloc::Global;
 use std::fs::File;
 use std::net::{Net, SocketAddr, TcpStream};
@@ -255,6 +255,22 @@ fn tell_waits<R: Eprint + Clock>(rt: &R, boards: &[Board]) -> Result<()> {
     Ok(())
 }
 
+// Tells which boards are not played on the server.
+fn tell_others<R: Eprint>(rt: &R, pairings: &[Pairing]) -> Result<()> {
+    for pairing in pairings {
+        let board = pairing.board;
+        if let Against::Game(game) = pairing.against
+            && game.times.is_none()
+        {
+            tell(
+                rt,
+                format_args!("board {board} has no times: no game is opened for it"),
+            )?;
+        }
+    }
+    Ok(())
+}
+
 // Goes round the boards until each has its game or is the arbiter's.
 fn go_round<R>(rt: &R, rounds: &mut Rounds<'_>, boards: &[Board]) -> Result<()>
 where
@@ -383,7 +399,7 @@ fn tell_end<R: Print>(rt: &R, boards: usize, games: usize) -> Result<()> {
     Ok(())
 }
 
-// The games of boards are opened, by what the round's file has.
+// The games of boards are opened, by what the round's file has; which boards have none is told before.
 fn start_boards<R>(rt: &R, starting: &Starting<'_>, pairings: &[Pairing]) -> Result<()>
 where
     R: Files<File = File>
@@ -398,11 +414,12 @@ where
 {
     let boards = boards_of(rt.alloc(), pairings, starting.said.takes.as_slice())?;
     let file = file_of(rt, starting, pairings, boards.as_slice())?;
+    tell_others(rt, pairings)?;
     let games = open_games(rt, starting, file, boards.as_slice())?;
     tell_end(rt, boards.len(), games)
 }
 
-/// Opens the game of each board at its start, and notes which it is.
+/// Opens the game of each board that has times at its start, and notes which it is.
 pub fn start<R>(rt: &R, starting: &Starting<'_>) -> Result<()>
 where
     R: Files<File = File>

@@ -1,30 +1,34 @@
 //! An arbiter's decision about a board that is put to those of its round: by the word `decide`, and by the lobby's.
 use crate::asked::Deciding;
-use crate::decisions::put_decision;
+use crate::decisions::{black_name, check_verdict, put_decision};
 use anyhow::{Context, Result, bail};
 use command_lines::unix_time;
 use lobby_words::{cut_word, number_named};
 use night_boards::pairings_of;
 use night_rounds::{
-    Against, Decision, Ground, Pairing, Players, decision_of, decision_text, verdict_of,
+    Decision, Ground, Pairing, Players, Verdict, decision_of, decision_text, verdict_of,
     verdict_text,
 };
 use std::alloc::Global;
 use std::fs::File;
 use std::rt::{Clock, Files};
 
-// The players of a board of pairings. It fails where there is no such board, or White has a bye there.
-fn players_at(alloc: Global, pairings: &[Pairing], board: u32) -> Result<Players> {
+// The players of a board of pairings, of which this verdict is that. It fails where there is no such board, or it can
+// have no such verdict.
+fn players_at(
+    alloc: Global,
+    pairings: &[Pairing],
+    board: u32,
+    verdict: Verdict,
+) -> Result<Players> {
     let Some(pairing) = pairings.iter().find(|pairing| pairing.board == board) else {
         bail!("there is no board {board}");
     };
-    match &pairing.against {
-        Against::Bye(_) => bail!("board {board} is a bye"),
-        Against::Game(game) => Ok(Players {
-            white: String::from_str(alloc, pairing.white.as_str())?,
-            black: String::from_str(alloc, game.black.as_str())?,
-        }),
-    }
+    check_verdict(pairing, verdict)?;
+    Ok(Players {
+        white: String::from_str(alloc, pairing.white.as_str())?,
+        black: String::from_str(alloc, black_name(&pairing.against))?,
+    })
 }
 
 // The decision about a board of these pairings, at this moment.
@@ -38,7 +42,9 @@ fn decision(
         at,
         board: deciding.board,
         verdict: deciding.verdict,
-        players: players_at(alloc, pairings, deciding.board).context(deciding.pairings)?,
+        players: players_at(alloc, pairings, deciding.board, deciding.verdict).context(
+            deciding.pairings,
+        )?,
         ground: Ground {
             article: String::from_str(alloc, deciding.article)?,
             arbiter: String::from_str(alloc, deciding.arbiter)?,
@@ -60,20 +66,15 @@ fn line_of(alloc: Global, decision: &Decision) -> Result<Vec<u8>> {
     Ok(line)
 }
 
-// The moment, as Unix time in milliseconds.
-fn moment<R: Clock>(rt: &R) -> Result<u64> {
-    match unix_time(rt)? {
-        Some(now) => Ok(now),
-        None => bail!("the system's clock shows a time before 1970"),
-    }
-}
-
 // Puts a decision about a board of these pairings.
 fn decide_board<R>(rt: &R, deciding: &Deciding<'_>, pairings: &[Pairing]) -> Result<()>
 where
     R: Files<File = File> + AllocGlobal + Clock + Eprint,
 {
-    let decision = decision(rt.alloc(), deciding, pairings, moment(rt)?)?;
+    let Some(now) = unix_time(rt)? else {
+        bail!("the system's clock shows a time before 1970");
+    };
+    let decision = decision(rt.alloc(), deciding, pairings, now)?;
     let line = line_of(rt.alloc(), &decision)?;
     put_decision(rt, deciding.file, pairings, line.as_slice())
 }
@@ -114,8 +115,8 @@ where
     put_deciding(rt, &deciding)
 }
 
-/// Puts a decision to those of its round, and tells it. It fails where the pairings have no such board or a bye there,
-/// where a text has a control character, and as `put_decision` does.
+/// Puts a decision to those of its round, and tells it. It fails where the pairings have no such board, or one that can
+/// have no such result, where a text has a control character, and as `put_decision` does.
 pub fn decide_result<R>(rt: &R, deciding: &Deciding<'_>) -> Result<()>
 where
     R: Files<File = File> + AllocGlobal + Clock + Print + Eprint,

@@ -4,7 +4,7 @@ use lobby_players::check_short;
 use night_files::{
     AppendedFile, DiskFile, RecordFile, TornFile, cut_lines, is_whole, tell_left_out, torn_fault,
 };
-use night_rounds::{Against, Decision, Pairing, decision_of};
+use night_rounds::{Against, Decision, Pairing, Verdict, decision_of, may_have};
 use std::alloc::Global;
 use std::fs::{self, File};
 use std::rt::Files;
@@ -16,28 +16,39 @@ const BEGINNING: &[u8] = b"{\"at\":";
 // More than the line of the longest decision has.
 const MOST_BEHIND: usize = 65_536;
 
-// Whether a decision is about a board of these pairings, with its players.
-fn is_about(decision: &Decision, pairing: &Pairing) -> bool {
-    match pairing.against {
-        Against::Bye(_) => false,
-        Against::Game(game) => {
-            decision.board == pairing.board
-                && decision.players.white.as_str() == pairing.white.as_str()
-                && decision.players.black.as_str() == game.black.as_str()
-        }
+/// The name of who has Black, empty where that is nobody.
+pub fn black_name(against: &Against) -> &str {
+    match against {
+        Against::Bye(_) => "",
+        Against::Game(game) => game.black.as_str(),
     }
 }
 
-// It fails where a decision is about no board of these pairings.
-fn check_decision(decision: &Decision, pairings: &[Pairing]) -> Result<()> {
-    if pairings.iter().any(|pairing| is_about(decision, pairing)) {
+/// Fails where a board can have no such verdict: a bye that of a game, and a game that of a bye.
+pub fn check_verdict(pairing: &Pairing, verdict: Verdict) -> Result<()> {
+    let board = pairing.board;
+    if may_have(&pairing.against, verdict) {
         return Ok(());
     }
+    match &pairing.against {
+        Against::Bye(_) => bail!("board {board} is a bye: its result is U, F, H or Z"),
+        Against::Game(_) => bail!("board {board} is no bye: its result is not U, F, H or Z"),
+    }
+}
+
+// It fails where a decision is about no board of these pairings, or one that can have no such verdict.
+fn check_decision(decision: &Decision, pairings: &[Pairing]) -> Result<()> {
     let board = decision.board;
     let (white, black) = (
         decision.players.white.as_str(),
         decision.players.black.as_str(),
     );
+    for pairing in pairings {
+        let (first, second) = (pairing.white.as_str(), black_name(&pairing.against));
+        if pairing.board == board && first == white && second == black {
+            return check_verdict(pairing, decision.verdict);
+        }
+    }
     bail!("it is of other pairings: it has {white} against {black} at board {board}")
 }
 

@@ -7,7 +7,7 @@ use anyhow::{Context, Result};
 use lobby_words::Player;
 use night_boards::{Round, paired_of};
 use night_report::{Meeting, Opponent, Particulars, Play, Score};
-use night_rounds::{Against, Pairing, Scored, counted};
+use night_rounds::{Against, Decision, Pairing, Scored, bye_counted, counted};
 use player_name::Name;
 use std::mem;
 use std::net::{Net, TcpStream};
@@ -57,25 +57,35 @@ fn play_of(ended: &Option<Ended>) -> Play {
 }
 
 // Whom White has at a board.
-fn opponent_of(players: &[Particulars<'_>], pairing: &Pairing) -> Result<Opponent> {
+fn opponent_of(
+    players: &[Particulars<'_>],
+    decisions: &[Decision],
+    pairing: &Pairing,
+) -> Result<Opponent> {
     match &pairing.against {
-        Against::Bye(bye) => Ok(Opponent::Bye(*bye)),
+        Against::Bye(bye) => Ok(Opponent::Bye(bye_counted(decisions, pairing.board, *bye))),
         Against::Game(game) => Ok(Opponent::Player(number_of(players, &game.black)?)),
     }
 }
 
-// What a board is in the report.
-fn meeting_of(players: &[Particulars<'_>], pairing: &Pairing, scored: Scored) -> Result<Meeting> {
+// What a board is in the report, by what came of its game and the decisions about it.
+fn meeting_of(
+    players: &[Particulars<'_>],
+    decisions: &[Decision],
+    pairing: &Pairing,
+    by_game: Scored,
+) -> Result<Meeting> {
+    let scored = counted(decisions, pairing.board, by_game);
     Ok(Meeting {
         board: pairing.board,
         white: number_of(players, &pairing.white)?,
-        black: opponent_of(players, pairing)?,
+        black: opponent_of(players, decisions, pairing)?,
         score: scored.score,
         play: scored.play,
     })
 }
 
-// What a board is in the report, by what came of its game and the decisions about it.
+// What a board is in the report, by archive and table and the decisions about it.
 fn met_at<R: Files + AllocGlobal + Eprint>(
     rt: &R,
     boards: Boards<'_>,
@@ -88,11 +98,8 @@ fn met_at<R: Files + AllocGlobal + Eprint>(
         score: score_of(&told.ended),
         play: play_of(&told.ended),
     };
-    let (board, scored) = (
-        pairing.board,
-        counted(boards.decisions, pairing.board, by_game),
-    );
-    meeting_of(players, pairing, scored).context(format_args!("board {board}"))
+    let board = pairing.board;
+    meeting_of(players, boards.decisions, pairing, by_game).context(format_args!("board {board}"))
 }
 
 // The meetings of a round's boards, in the order of their numbers.

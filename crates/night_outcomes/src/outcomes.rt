@@ -8,8 +8,9 @@ use command_lines::tell;
 use lobby_players::full_name;
 use lobby_words::Player;
 use night_links::{Answer, Link, refused};
+use night_report::Bye;
 use night_rounds::{
-    Against, Decision, Note, Pairing, decision_about, game_in, last_of, verdict_text,
+    Against, Decision, Note, Pairing, Verdict, decision_about, game_in, last_of, verdict_text,
 };
 use player_name::Name;
 use server_answers::{Refusal, Seats, Shown, refusal_of, result_text, shown_of};
@@ -28,10 +29,12 @@ pub struct Ended {
     pub is_played: bool,
 }
 
-// What was found of a board's game: what came of it, that it is of others, or why it is not known; else nothing.
+// What was found of a board: what came of its game, that it is of others, or why it is not known, or a bye; else
+// nothing.
 #[derive(Drop)]
 enum Found {
     Ended(Ended),
+    Bye(Bye),
     Others(String),
     Unknown(String),
     Nothing,
@@ -390,7 +393,7 @@ impl<'a> Outcomes<'a> {
         }
     }
 
-    // What is known of a board's game. Of a bye nothing is.
+    // What is known of a board.
     fn found_at<R: Files + AllocGlobal + Eprint>(
         &mut self,
         rt: &R,
@@ -398,12 +401,16 @@ impl<'a> Outcomes<'a> {
         game: Option<u32>,
     ) -> Result<Found> {
         match (&pairing.against, game) {
-            (Against::Bye(_), _) => Ok(Found::Nothing),
+            (Against::Bye(bye), _) => Ok(Found::Bye(*bye)),
             (Against::Game(paired), Some(game)) => {
                 self.found(rt, &pairing.white, &paired.black, game)
             }
-            (Against::Game(_), None) => {
-                Ok(Found::Unknown(String::from_str(self.alloc, "no game was opened for it")?))
+            (Against::Game(paired), None) => {
+                let why = match paired.times {
+                    Some(_) => "no game was opened for it",
+                    None => "it is not played on the server",
+                };
+                Ok(Found::Unknown(String::from_str(self.alloc, why)?))
             }
         }
     }
@@ -503,22 +510,23 @@ impl<'a> Outcomes<'a> {
         Ok(())
     }
 
-    // Has it told later what an arbiter decided of a board, and what the server says.
+    // Has it told later what an arbiter decided of a board, and what the server says, or the pairings of a bye.
     fn put_decision(
         &mut self,
         file: &str,
         decision: &Decision,
         found: &Found,
     ) -> Result<(), AllocError> {
-        let told = match found {
-            Found::Ended(ended) => ended.result.as_str(),
-            _ => "nothing",
+        let (says, told) = match found {
+            Found::Ended(ended) => ("the server says", ended.result.as_str()),
+            Found::Bye(bye) => ("the pairings say", verdict_text(Verdict::Bye(*bye))),
+            _ => ("the server says", "nothing"),
         };
         let (arbiter, verdict) = (
             decision.ground.arbiter.as_str(),
             verdict_text(decision.verdict),
         );
-        let why = format!(in self.alloc; "{arbiter} decided {verdict}; the server says {told}")?;
+        let why = format!(in self.alloc; "{arbiter} decided {verdict}; {says} {told}")?;
         self.put_word(file, decision.board, why.as_str())
     }
 

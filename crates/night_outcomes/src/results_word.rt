@@ -1,6 +1,6 @@
 //! The word that writes the results of a round.
 use crate::asked::Asking;
-use crate::decisions::decisions_of;
+use crate::decisions::{black_name, decisions_of};
 use crate::outcomes::{Boards, Outcomes, Told, check_fault, noted_game};
 use anyhow::Result;
 use lobby_players::players_of;
@@ -52,10 +52,7 @@ fn outcome_of<'a>(notes: &[Note], pairing: &'a Pairing, told: &'a Told) -> Outco
     Outcome {
         board: pairing.board,
         white: pairing.white.as_str(),
-        black: match &pairing.against {
-            Against::Game(game) => game.black.as_str(),
-            Against::Bye(_) => "",
-        },
+        black: black_name(&pairing.against),
         result,
         article,
         game: noted_game(notes, pairing.board),

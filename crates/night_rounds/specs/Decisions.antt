@@ -4,6 +4,8 @@ use Rattle.std.specs.Prelude.{if◌then◌else◌}
 use Rattle.std.specs.List.{list_all}
 use Rattle.std.specs.Str.{bytes_eq, is_utf8}
 use Rattle.std.specs.String.{string_bytes}
+use Rattle.night_report.specs.declared.cells.Bye.{Bye}
+use Rattle.night_report.specs.declared.cells.Bye.TheVariants as byes
 use Rattle.text_parts.specs.Numbers.{u64_in, number_below}
 use Rattle.text_parts.specs.Strings.{escaped, unescaped_from, behind_from}
 use Rattle.night_rounds.specs.declared.decisions.Decision.{Decision}
@@ -55,8 +57,15 @@ decided d =
       ground = grounds d.ground;
     }
 
+-- the signs of a bye in a report
+abbrev pub bye_text : Bye → List ℕ
+bye_text byes.Pairing = codes "U"
+bye_text byes.Full = codes "F"
+bye_text byes.Half = codes "H"
+bye_text byes.Zero = codes "Z"
+
 -- White's points before Black's; of who did not come a minus, and of a game that is not rated, since not both sides
--- made a move, the signs of a report
+-- made a move, the signs of a report, as of a bye
 abbrev pub verdict_text : Verdict → List ℕ
 verdict_text verdicts.White = codes "1-0"
 verdict_text verdicts.Black = codes "0-1"
@@ -70,6 +79,7 @@ verdict_text verdicts.NobodyCame = codes "-/-"
 verdict_text verdicts.WhiteUnrated = codes "W/L"
 verdict_text verdicts.BlackUnrated = codes "L/W"
 verdict_text verdicts.DrawUnrated = codes "D/D"
+verdict_text (verdicts.Bye bye) = bye_text bye
 verdict_text verdicts.AsPlayed = codes "as-played"
 
 unfoldable pub verdict_in : List ℕ → Option Verdict
@@ -86,7 +96,11 @@ verdict_in text =
     else (if bytes_eq text (codes "W/L") then Some verdicts.WhiteUnrated
     else (if bytes_eq text (codes "L/W") then Some verdicts.BlackUnrated
     else (if bytes_eq text (codes "D/D") then Some verdicts.DrawUnrated
-    else (if bytes_eq text (codes "as-played") then Some verdicts.AsPlayed else None))))))))))))
+    else (if bytes_eq text (codes "U") then Some (verdicts.Bye byes.Pairing)
+    else (if bytes_eq text (codes "F") then Some (verdicts.Bye byes.Full)
+    else (if bytes_eq text (codes "H") then Some (verdicts.Bye byes.Half)
+    else (if bytes_eq text (codes "Z") then Some (verdicts.Bye byes.Zero)
+    else (if bytes_eq text (codes "as-played") then Some verdicts.AsPlayed else None))))))))))))))))
 
 -- what stands before a string and its first quote, and its text
 abbrev pub text_behind : List ℕ → List ℕ → List ℕ

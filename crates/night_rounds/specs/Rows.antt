@@ -33,19 +33,23 @@ milliseconds (Err e) = None
 abbrev pub start_in : List ℕ → Option (Option ℤ)
 start_in text = if is_empty text then Some None else option_map Some (milliseconds (parse_timestamp text))
 
+-- the times: none where the field is empty, of a game that is not played on the server
+abbrev pub times_if : List ℕ → Option (Option Times)
+times_if text = if is_empty text then Some None else option_map Some (times_in text)
+
 -- a game by its fields
-abbrev pub with_start : List ℕ → Times → Option (Option ℤ) → Result Game RowFault
+abbrev pub with_start : List ℕ → Option Times → Option (Option ℤ) → Result Game RowFault
 with_start black times None = Err faults.BadStart
 with_start black times (Some start) = Ok (record { black = black; times = times; start = start })
 
-abbrev pub with_times : List ℕ → List ℕ → Option Times → Result Game RowFault
+abbrev pub with_times : List ℕ → List ℕ → Option (Option Times) → Result Game RowFault
 with_times black start None = Err faults.BadTimes
 with_times black start (Some times) = with_start black times (start_in start)
 
 abbrev pub with_black : List ℕ → List ℕ → List ℕ → Option (List ℕ) → Result Game RowFault
 with_black white times start None = Err faults.BadBlack
 with_black white times start (Some black) =
-    if bytes_eq white black then Err faults.SamePlayer else with_times black start (times_in times)
+    if bytes_eq white black then Err faults.SamePlayer else with_times black start (times_if times)
 
 abbrev pub game_by_fields : List ℕ → List ℕ → List ℕ → List ℕ → Result Game RowFault
 game_by_fields white black times start = with_black white times start (name_in black)

@@ -4,7 +4,8 @@ ghost use Rattle.std.specs.Option.{option_copied};
 ghost use Rattle.night_rounds.specs.Counting as spec;
 
 use crate::decisions::{Decision, Verdict, verdict_text};
-use night_report::{Play, Score};
+use crate::rows::Against;
+use night_report::{Bye, Play, Score};
 
 // The last decision about a board.
 fn last_about(decisions: &[Decision], board: u32) -> Option<&Decision>
@@ -19,11 +20,14 @@ fn last_about(decisions: &[Decision], board: u32) -> Option<&Decision>
     found
 }
 
-// Whether a verdict gives a board no result of its own.
-fn is_as_played(verdict: Verdict) -> bool
-    ensures { result ≡ spec.is_as_played verdict }
+/// Whether a verdict may be that of a board: of a bye it is one of a bye, of a game none, and `as-played` of either.
+pub fn may_have(against: &Against, verdict: Verdict) -> bool
+    ensures { result ≡ spec.may_have against.now verdict }
 {
-    matches!(verdict, Verdict::AsPlayed)
+    match against {
+        Against::Bye(_) => matches!(verdict, Verdict::Bye(_) | Verdict::AsPlayed),
+        Against::Game(_) => !matches!(verdict, Verdict::Bye(_)),
+    }
 }
 
 /// The decision that counts for a board: the last one about it; none where that says `as-played`, as where nobody has
@@ -32,7 +36,7 @@ pub fn decision_about(decisions: &[Decision], board: u32) -> Option<&Decision>
     ensures { option_copied result ≡ spec.decision_about board decisions.entry.now }
 {
     let decision = last_about(decisions, board)?;
-    if is_as_played(decision.verdict) {
+    if matches!(decision.verdict, Verdict::AsPlayed) {
         None
     } else {
         Some(decision)
@@ -97,38 +101,22 @@ fn score_of(verdict: Verdict) -> Score
         Verdict::HalfWhite => Score::HalfWhite,
         Verdict::HalfBlack => Score::HalfBlack,
         Verdict::Neither | Verdict::NobodyCame => Score::Neither,
-        Verdict::AsPlayed => Score::Open,
+        Verdict::Bye(_) | Verdict::AsPlayed => Score::Open,
     }
 }
 
-// How a game came to a verdict: who lost did not come, not both made a move, or else over the board.
-fn play_of(verdict: Verdict) -> Play
-    ensures { result ≡ spec.play_of verdict }
+// How a board came to a verdict: who lost did not come, not both sides made a move, or else over the board, but where
+// not both have by what came of its game.
+fn play_by(verdict: Verdict, told: Play) -> Play
+    ensures { result ≡ spec.play_by (spec.play_of verdict) told }
 {
     match verdict {
         Verdict::WhiteCame | Verdict::BlackCame | Verdict::NobodyCame => Play::Forfeit,
         Verdict::WhiteUnrated | Verdict::BlackUnrated | Verdict::DrawUnrated => Play::Short,
-        _ => Play::Board,
-    }
-}
-
-// How a board came to its result that was decided as one that was played, by what came of its game: not both sides may
-// have made a move.
-fn as_played(told: Play) -> Play
-    ensures { result ≡ spec.as_played told }
-{
-    match told {
-        Play::Board => Play::Board,
-        Play::Short | Play::Forfeit => Play::Short,
-    }
-}
-
-fn play_by(decided: Play, told: Play) -> Play
-    ensures { result ≡ spec.play_by decided told }
-{
-    match decided {
-        Play::Board => as_played(told),
-        Play::Short | Play::Forfeit => decided,
+        _ => match told {
+            Play::Board => Play::Board,
+            Play::Short | Play::Forfeit => Play::Short,
+        },
     }
 }
 
@@ -140,7 +128,20 @@ pub fn counted(decisions: &[Decision], board: u32, told: Scored) -> Scored
         None => told,
         Some(decision) => Scored {
             score: score_of(decision.verdict),
-            play: play_by(play_of(decision.verdict), told.play),
+            play: play_by(decision.verdict, told.play),
+        },
+    }
+}
+
+/// What a bye is: by the decision that counts for its board, and else by the pairings.
+pub fn bye_counted(decisions: &[Decision], board: u32, told: Bye) -> Bye
+    ensures { result ≡ spec.bye_by (spec.decision_about board decisions.now) told }
+{
+    match decision_about(decisions, board) {
+        None => told,
+        Some(decision) => match decision.verdict {
+            Verdict::Bye(bye) => bye,
+            _ => told,
         },
     }
 }

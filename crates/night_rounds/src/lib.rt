@@ -21,7 +21,7 @@ mod rows;
 mod steps;
 mod times;
 
-pub use counting::{Scored, counted, decision_about};
+pub use counting::{Scored, bye_counted, counted, decision_about, may_have};
 pub use decisions::{
     Decision, Ground, Players, Verdict, decision_of, decision_text, verdict_of, verdict_text,
 };

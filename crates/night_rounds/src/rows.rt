@@ -19,7 +19,8 @@ use std::alloc::{AllocError, Global};
 #[derive(Clone, Copy)]
 pub struct Game {
     pub black: Name,
-    pub times: Times,
+    /// None of one that is not played on the server.
+    pub times: Option<Times>,
     /// When it starts, in milliseconds from 1970 on; at once without.
     pub start: Option<i64>,
 }
@@ -79,6 +80,19 @@ fn start_of(text: &str) -> Option<Option<i64>>
     }
 }
 
+// The times of a text; none where it is empty.
+fn times_in(alloc: Global, text: &str) -> Result<Option<Option<Times>>, AllocError>
+    ensures { IfOk result (λ times. times ≡ spec.times_if text.now) }
+{
+    if text.is_empty() {
+        return Ok(Some(None));
+    }
+    match times_of(alloc, text)? {
+        Some(times) => Ok(Some(Some(times))),
+        None => Ok(None),
+    }
+}
+
 // The fields that tell of a game.
 #[derive(Clone, Copy)]
 struct Fields<'a> {
@@ -126,7 +140,7 @@ fn game_of(
     if white.as_str() == black.as_str() {
         return Ok(Err(RowFault::SamePlayer));
     }
-    let Some(times) = times_of(alloc, fields.times)? else {
+    let Some(times) = times_in(alloc, fields.times)? else {
         return Ok(Err(RowFault::BadTimes));
     };
     match start_of(fields.start) {
