@@ -1,4 +1,0 @@
-pub mod Told
-pub mod Refusals
-pub mod Acts
-pub mod Names

@@ -1,5 +1,0 @@
-mod Room
-mod Widths
-mod TimesShown
-pub mod Coming
-pub mod Playing

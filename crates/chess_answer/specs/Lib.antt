@@ -1,4 +1,0 @@
-pub mod Fields
-pub mod Refusals
-pub mod Acts
-pub mod Reads

@@ -1,3 +1,0 @@
-pub mod Computing
-pub mod Ending
-pub mod Material

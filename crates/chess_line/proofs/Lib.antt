@@ -1,4 +1,0 @@
-pub mod Cuts
-pub mod Cases
-pub mod Ascii
-pub mod Numbers

@@ -1,4 +1,0 @@
-pub mod Text
-pub mod Fields
-pub mod Cut
-pub mod Line

@@ -1,8 +1,0 @@
-use Rattle.chess_moves.proofs.Foes.{diagonal_set}
-use Rattle.chess_moves.proofs.masks.diagonal_sliders.Goals as goal
-
-pub returns : goal.returns
-returns c way odd =
-    rw (c.meet.ensures, c.union.ensures, c.of_kind.ensures, c.of_kind-2.ensures, c.men-men.ensures)
-    (diagonal_set c.args.board.now c.men_of-theirs.result way c.men_of-theirs.ensures.valid.whole odd
-    (rw (c.other.ensures, c.side.ensures) at c.men_of-theirs.ensures.held))

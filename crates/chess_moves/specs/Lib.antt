@@ -1,5 +1,0 @@
-pub mod Targets
-pub mod Moves
-pub mod Listing
-pub mod Masks
-pub mod Counting

@@ -1,6 +1,0 @@
-pub mod Name
-pub mod San
-pub mod Coordinate
-pub mod Naming
-pub mod Letters
-pub mod Fen

@@ -1,4 +1,0 @@
-pub mod SamePosition
-pub mod Key
-pub mod QuietRun
-pub mod History

@@ -1,9 +1,0 @@
-pub mod SourceLemmas
-pub mod Counters
-pub mod OneText
-pub mod Shapes
-pub mod Arrivals
-pub mod OneMove
-pub mod Comparing
-pub mod Computed
-mod Examples

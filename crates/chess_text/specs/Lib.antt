@@ -1,3 +1,0 @@
-pub mod Movetext
-pub mod Pgn
-pub mod Game

@@ -1,9 +1,0 @@
-pub mod Serving
-pub mod Lined
-pub mod Living
-pub mod Waking
-pub mod Speaking
-pub mod Room
-pub mod Tally
-pub mod Seats
-pub mod Leaving

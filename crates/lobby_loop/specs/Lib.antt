@@ -1,9 +1,0 @@
-pub mod Logging
-pub mod Places
-pub mod Seating
-pub mod Roll
-pub mod Comers
-pub mod Turning
-pub mod Doing
-pub mod Speaking
-pub mod Living

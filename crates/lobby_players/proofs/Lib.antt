@@ -1,9 +1,0 @@
-pub mod Words
-pub mod Told
-pub mod EachLine
-pub mod SeenOf
-pub mod Written
-pub mod NewLink
-pub mod Same
-pub mod TokenText
-pub mod Newcomer

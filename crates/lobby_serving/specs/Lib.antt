@@ -1,5 +1,0 @@
-pub mod Marks
-pub mod Listing
-pub mod Knowing
-pub mod ByHand
-pub mod Beside

@@ -1,9 +1,0 @@
-pub mod Sent
-pub mod Waited
-pub mod PresentNames
-pub mod Watched
-pub mod Others
-pub mod Opened
-pub mod Rows
-pub mod First
-pub mod Tails

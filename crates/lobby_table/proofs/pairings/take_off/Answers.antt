@@ -1,7 +1,0 @@
-use Rattle.std.proofs.Common.{not, ◌==◌, rules}
-use Rattle.std.proofs.lemmas.Fn.{filter_same}
-use Rattle.lobby_table.specs.declared.pairings.Pairing.{Pairing}
-use Rattle.lobby_table.proofs.pairings.take_off.Goals as goal
-
-pub returns : goal.returns
-returns c = filter_same _ (λ (p : Pairing). not (p.game == c.args.game)) _ (λ x b f' k. search rules) _ _ c.retain.ensures.filtered

@@ -1,7 +1,0 @@
-use Rattle.std.specs.String.{string_bytes}
-use Rattle.lobby_talk.proofs.Replaying.{none_of_line}
-use Rattle.lobby_talk.proofs.kept_answer.KeptAnswer.lost.Goals as goal
-
-pub new-requires : goal.new-requires
-new-requires c =
-    ∣ none_of_line (string_bytes c.args.pgn) (string_bytes c.in_ok-answer.answer) c.requires c.in_ok-answer.ensures.ok ∣₁

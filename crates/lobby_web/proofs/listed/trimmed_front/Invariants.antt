@@ -1,9 +1,0 @@
-use Rattle.std.proofs.Common.{◌≡◌, length}
-use Rattle.httparse.specs.Grammar.{skip_ows}
-use Rattle.lobby_web.proofs.listed.trimmed_front.Given as goal
-
-abbrev pub invariant-loop-text : goal.invariant-loop-text
-invariant-loop-text l = skip_ows l.text ≡ skip_ows l.fn.text
-
-abbrev pub decreases-loop-text : goal.decreases-loop-text
-decreases-loop-text l = length l.text

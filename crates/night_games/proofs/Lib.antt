@@ -1,2 +1,0 @@
-mod Faults
-mod Escaped

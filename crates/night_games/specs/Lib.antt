@@ -1,4 +1,0 @@
-pub mod Called
-pub mod Html
-pub mod Particulars
-pub mod Roster

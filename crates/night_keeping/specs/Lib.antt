@@ -1,3 +1,0 @@
-pub mod Games
-pub mod Names
-pub mod Told

@@ -1,2 +1,0 @@
-pub mod Breaks
-pub mod Places

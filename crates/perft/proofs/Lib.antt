@@ -1,4 +1,0 @@
-mod Asked
-mod Depths
-mod Recounting
-mod Through

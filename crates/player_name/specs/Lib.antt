@@ -1,2 +1,0 @@
-pub mod Name
-pub mod NameInside

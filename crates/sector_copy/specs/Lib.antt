@@ -1,3 +1,0 @@
-pub mod Source
-pub mod Faults
-pub mod Copying

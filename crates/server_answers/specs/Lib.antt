@@ -1,6 +1,0 @@
-pub mod Fields
-pub mod Values
-pub mod Games
-pub mod Heads
-pub mod Refusals
-pub mod Entered

@@ -1,2 +1,0 @@
-pub mod SlotLemmas
-pub mod BeatLemmas

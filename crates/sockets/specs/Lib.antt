@@ -1,3 +1,0 @@
-pub mod Accepting
-pub mod Listeners
-pub mod Watches

@@ -1,2 +1,0 @@
-mod ChangeLemmas
-pub mod WriteLemmas
