@@ -108,7 +108,8 @@ class Desk:
         board.first_plies, board.fen = int(stands[2]), (await self.say(f'fen {first}')).split(' ', 3)[3]
         await self.close(board, first)
         await asyncio.sleep(PAUSE)
-        seconds = max(map(int, stands[4:6])) // 1000
+        # (a game begins with a day at most)
+        seconds = min(86400, max(map(int, stands[4:6])) // 1000)
         board.times = f'{seconds}+{board.plan.increment}' if board.plan.increment else str(seconds)
         second = await self.go_on(board, first, f'{seconds} {board.plan.increment}')
         await self.night.take(number, board.number, second)
