@@ -1,13 +1,42 @@
 -- The moves that words name, one after another.
-use Rattle.std.proofs.Common.{ℕ, ◌≡◌, List, [], ◌∷◌, ◌++◌, refl, sym, ap, ◌∙◌, subst, append_assoc, append-nil, Option}
+use Rattle.std.proofs.Common.{ℕ, zero, suc, ◌≡◌, List, [], ◌∷◌, ◌++◌, length, take, drop, refl, sym, ap, ◌∙◌, subst, append_assoc, append-nil, arith, Option}
 use Rattle.std.proofs.Common.{Some, None}
 use Rattle.std.specs.Prelude.{IfSome, IfNone}
 use Rattle.chess_board.specs.declared.moves.Move.{Move}
 use Rattle.chess_board.specs.Position.{Position}
 use Rattle.chess_board.specs.Next.{next}
+use Rattle.chess_board.specs.Line.{position_after}
 use Rattle.chess_notation.specs.Naming.{Names}
 use Rattle.text_pgn.specs.Game.{Plays, ArePlayed}
 use Rattle.text_pgn.specs.Replaying.{Continued, Runs}
+
+-- the words up to one, and that one
+take_one : (words : List (List ℕ)) (at : ℕ) (word : List ℕ) (left : List (List ℕ)) → drop at words ≡ word ∷ left →
+    take (suc at) words ≡ take at words ++ word ∷ []
+take_one [] zero word left cut =
+    let none : 0 ≡ suc (length left) = ap (λ (l : List (List ℕ)). length l) cut in
+    absurd (omega (arith, none))
+take_one [] (suc n) word left cut =
+    let none : 0 ≡ suc (length left) = ap (λ (l : List (List ℕ)). length l) cut in
+    absurd (omega (arith, none))
+take_one (x ∷ xs) zero word left cut = ap (λ (l : List (List ℕ)). take 1 l) cut
+take_one (x ∷ xs) (suc n) word left cut = ap (λ (l : List (List ℕ)). x ∷ l) (take_one xs n word left cut)
+
+played_more : (p : Position) (words : List (List ℕ)) (done : List Move) (word : List ℕ) (m : Move) →
+    ArePlayed p words done → Plays (position_after p done) word m → ArePlayed p (words ++ word ∷ []) (done ++ m ∷ [])
+played_more p [] [] word m played plays = (plays, tt)
+played_more p [] (d ∷ ds) word m played plays = absurd played
+played_more p (w ∷ ws) [] word m played plays = absurd played
+played_more p (w ∷ ws) (d ∷ ds) word m played plays =
+    (played.0, played_more (next p d) ws ds word m played.1 plays)
+
+-- the next word names one move more
+pub played_on : (start : Position) (words : List (List ℕ)) (at : ℕ) (word : List ℕ) (left : List (List ℕ))
+    (done : List Move) (m : Move) → drop at words ≡ word ∷ left → ArePlayed start (take at words) done →
+    Plays (position_after start done) word m → ArePlayed start (take (suc at) words) (done ++ m ∷ [])
+played_on start words at word left done m cut played plays =
+    subst (λ (ws : List (List ℕ)). ArePlayed start ws (done ++ m ∷ [])) (sym (take_one words at word left cut))
+    (played_more start (take at words) done word m played plays)
 
 more_by : (p after : Position) (word : List ℕ) (left : List (List ℕ)) (done more all : List Move) (m : Move)
     (rest : List Move) →

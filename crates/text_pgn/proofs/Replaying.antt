@@ -1,6 +1,6 @@
 -- A replay, word by word.
 use Rattle.std.proofs.Common.{ℕ, ◌≡◌, ◌≤◌, ◌<◌, ◌+◌, List, [], ◌∷◌, ◌++◌, length, get_or, map, take, drop, suc, refl, sym, ap, ◌∙◌}
-use Rattle.std.proofs.Common.{subst, append_assoc, length-append, arith, codes, decimal}
+use Rattle.std.proofs.Common.{subst, append_assoc, length-append, add-one, arith, codes, decimal}
 use Rattle.std.specs.String.{string_bytes}
 use Rattle.std.proofs.lemmas.List.{drop_more, drop_all, get_or-map, length-map}
 use Rattle.chess_board.specs.declared.moves.Move.{Move}
@@ -11,7 +11,7 @@ use Rattle.text_pgn.specs.Game.{Plays, ArePlayed, StartsAt, TellsNone, fen_in, l
 use Rattle.text_pgn.specs.Answer.{head, row, PutsRow, PutsRows, IsLineAnswer}
 use Rattle.text_pgn.specs.Replaying.{IsUnderWay, IsWhole, Goes, Runs, StopsWithin, words_left}
 use Rattle.text_pgn.specs.declared.replay.Replay.{Replay}
-use Rattle.text_pgn.proofs.Played.{runs_more, runs_end, runs_one, runs_stop}
+use Rattle.text_pgn.proofs.Played.{played_on, runs_more, runs_end, runs_one, runs_stop}
 use Rattle.text_pgn.proofs.Spelled.{rows_none, rows_put}
 
 -- the words from one on
@@ -36,6 +36,7 @@ begins game pgn replay begun only words none text = record {
   within = rw none (omega arith);
   done = [];
   count = sym none;
+  played = subst (λ (n : ℕ). ArePlayed replay.board (take n (words_in pgn)) []) (sym none) tt;
   runs = subst (λ (l : List (List ℕ)). Runs replay.board replay.board (words_in pgn) l [])
       (sym (ap (λ (n : ℕ). drop n (map string_bytes replay.words.items)) none ∙ words))
       (record { back = λ rest h. h; forth = λ all h. record { rest = all; joined = refl; played = h } });
@@ -59,6 +60,12 @@ goes_on game pgn old new word m cut same at below plays one board put u = record
   within = rw same (omega (arith, at, below));
   done = u.done ++ m ∷ [];
   count = let len = length-append u.done (m ∷ []) in omega (arith, len, at, u.count);
+  played = subst (λ (ws : List (List ℕ)). ArePlayed u.start (take new.at ws) (u.done ++ m ∷ [])) u.words
+      (subst (λ (n : ℕ). ArePlayed u.start (take n (map string_bytes old.words.items)) (u.done ++ m ∷ []))
+      (sym (at ∙ add-one old.at))
+      (played_on u.start (map string_bytes old.words.items) old.at word (words_left new) u.done m cut
+      (subst (λ (ws : List (List ℕ)). ArePlayed u.start (take old.at ws) u.done) (sym u.words) u.played)
+      (subst (λ (q : Position). Plays q word m) u.at plays)));
   runs = runs_more u.start old.board new.board (words_in pgn) (words_left new) word u.done m
       (subst (λ (l : List (List ℕ)). Runs u.start old.board (words_in pgn) l u.done) cut u.runs) plays one board;
   at = board ∙ (ap (λ (q : Position). next q m) u.at ∙ sym (position_after-push u.start u.done m));

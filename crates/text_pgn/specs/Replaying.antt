@@ -29,8 +29,8 @@ left replay = length replay.words.items - replay.at
 abbrev pub words_left : Replay → List (List ℕ)
 words_left replay = drop replay.at (map string_bytes replay.words.items)
 
--- A replay of this PGN, of the game of this number, is under way: its words are played up to here from the one start
--- that it has, and the rows of the moves stand behind the head of the answer to `line G`.
+-- A replay of this PGN, of the game of this number, is under way: its words up to here name just the moves that are
+-- played from the one start that it has, and the rows of these stand behind the head of the answer to `line G`.
 pub record IsUnderWay (game : ℕ) (pgn : List ℕ) (replay : Replay) : Type 0 where
   pub start : Position
   pub begun : StartsAt (fen_in (lines_of pgn)) start
@@ -39,6 +39,7 @@ pub record IsUnderWay (game : ℕ) (pgn : List ℕ) (replay : Replay) : Type 0 w
   pub within : replay.at ≤ length replay.words.items
   pub done : List Move
   pub count : length done ≡ replay.at
+  pub played : ArePlayed start (take replay.at (words_in pgn)) done
   pub runs : Runs start replay.board (words_in pgn) (words_left replay) done
   pub at : replay.board ≡ position_after start done
   pub rows : PutsRows start done (head game (length (words_in pgn)) start) (string_bytes replay.text)
