@@ -2,7 +2,7 @@
 // there once the other has said the very same. Nothing waits at the table meanwhile, and nobody else can join.
 
 import { t } from './language.js';
-import { readRefusal, readTimes, timesOfOpen } from './lines.js';
+import { readRefusal, readTimes, readWho, timesOfOpen } from './lines.js';
 import { arrange, byId, make, say } from './make.js';
 import { sound } from './sound.js';
 import { colourWord, refusalWords, timesWords } from './words.js';
@@ -24,6 +24,7 @@ export class Challenges {
     this.isLooking = this.isStale = false;
     this.filled = '';                  // the opponents who may be chosen
     this.filledAt = -Infinity;
+    this.here = null;                  // the names of who is connected, once that was told
     byId('against').addEventListener('focus', () => this.lookForPlayers());
     setInterval(() => this.items.size && this.look(), LOOKS);
   }
@@ -154,23 +155,29 @@ export class Challenges {
     return answer === 'ok offered';
   }
 
-  /** Nobody tells of a player who has walked in: who looks for an opponent asks. */
-  lookForPlayers() {
-    if (performance.now() - this.filledAt > KNOWS_FOR) this.app.askPlayers();
+  /** Nobody tells of a player who has walked in, nor who is connected: who looks for an opponent asks. */
+  async lookForPlayers() {
+    if (performance.now() - this.filledAt < KNOWS_FOR) return;
+    this.filledAt = performance.now();
+    const answer = await this.app.wire.say('who', true);
+    this.here = answer[0].startsWith('ok who ') ? readWho(answer).names : null;
+    this.app.askPlayers();
   }
 
-  /** The opponents who may be chosen: anybody, or one player, by the full name. */
+  /** The opponents who may be chosen: anybody, or one player, by the full name, those who are connected first. */
   fillPlayers() {
     this.filledAt = performance.now();
     const list = byId('against'), chosen = list.value, me = this.app.me();
+    const isAway = (name) => Boolean(this.here) && !this.here.has(name);
     const rows = [...this.app.players].filter(([name]) => name !== me)
-      .sort(([, a], [, b]) => a.full.localeCompare(b.full));
-    const filled = JSON.stringify(rows.map(([name, { full }]) => [name, full]));
+      .map(([name, { full }]) => ({ name, text: isAway(name) ? `${full}, ${t`not connected`}` : full }))
+      .sort((a, b) => Number(isAway(a.name)) - Number(isAway(b.name)) || a.text.localeCompare(b.text));
+    const filled = JSON.stringify(rows);
     if (filled !== this.filled) {      // (a list that is open is left alone)
       this.filled = filled;
       list.replaceChildren(make('option', { value: '' }, t`Anybody`),
-        ...rows.map(([name, { full }]) => make('option', { value: name }, full)));
-      list.value = rows.some(([name]) => name === chosen) ? chosen : '';
+        ...rows.map(({ name, text }) => make('option', { value: name }, text)));
+      list.value = rows.some(({ name }) => name === chosen) ? chosen : '';
     }
     byId('against-field').hidden = !me || this.app.isArbiter() || rows.length === 0;
   }

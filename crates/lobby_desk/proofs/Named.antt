@@ -290,7 +290,7 @@ sorted_fits players sorts.Drop s who game said text c is other =
     (λ g. (show_silent g, tt))
 sorted_fits players sorts.Login s who game said text c is other = login_does (FitsPlan said text (Asker c ForItself)) s.holder (λ _. tt) (λ _. tt)
 sorted_fits players sorts.Players s who game said text c is other = tt
-sorted_fits players sorts.Who s who game said text c is other = arbiter_does (FitsPlan said text (Asker c ForItself)) who plans.Who (λ _. tt) tt
+sorted_fits players sorts.Who s who game said text c is other = tt
 sorted_fits players sorts.Pause s who game said text c is other = arbiter_does (FitsPlan said text (Asker c ForItself)) who plans.Pause (λ _. tt) tt
 sorted_fits players sorts.Resume s who game said text c is other = arbiter_does (FitsPlan said text (Asker c ForItself)) who plans.Resume (λ _. tt) tt
 sorted_fits players (sorts.Call call) s who game said text c is other =

@@ -93,7 +93,7 @@ sorted_who sorts.Offers s who game before = refl
 sorted_who sorts.Drop s who game before = dropped_does (Notes before) s who game (λ _. refl) (λ _. refl)
 sorted_who sorts.Login s who game before = login_who s.holder before
 sorted_who sorts.Players s who game before = refl
-sorted_who sorts.Who s who game before = arbiter_does (Notes before) who plans.Who (λ _. refl) refl
+sorted_who sorts.Who s who game before = refl
 sorted_who sorts.Pause s who game before = arbiter_does (Notes before) who plans.Pause (λ _. refl) refl
 sorted_who sorts.Resume s who game before = arbiter_does (Notes before) who plans.Resume (λ _. refl) refl
 sorted_who (sorts.Call call) s who game before =
@@ -477,8 +477,7 @@ sorted_good players text s said who game sorts.Offers other message is small nam
 sorted_good players text s said who game sorts.Drop other message is small named = dropped_good text s who (name_for players (is_agreement s.accord) (Some who) text) said game small named
 sorted_good players text s said who game sorts.Login other message is small named = login_good [] text (name_for players (is_agreement s.accord) (Some who) text) said s.holder
 sorted_good players text s said who game sorts.Players other message is small named = none_good [] (name_for players (is_agreement s.accord) (Some who) text) said
-sorted_good players text s said who game sorts.Who other message is small named =
-    silent_good text who (name_for players (is_agreement s.accord) (Some who) text) said plans.Who (none_good [] (name_for players (is_agreement s.accord) (Some who) text) said)
+sorted_good players text s said who game sorts.Who other message is small named = none_good [] (name_for players (is_agreement s.accord) (Some who) text) said
 sorted_good players text s said who game sorts.Pause other message is small named =
     silent_good text who (name_for players (is_agreement s.accord) (Some who) text) said plans.Pause (none_good [] (name_for players (is_agreement s.accord) (Some who) text) said)
 sorted_good players text s said who game sorts.Resume other message is small named =

@@ -359,7 +359,7 @@ fn sort_plan(sort: Sort, standing: &Standing, who: Identity, game: Option<u32>) 
         Sort::Offers => Plan::Offers(who, standing.at),
         Sort::Login => login_plan(standing.holder),
         Sort::Players => Plan::Players,
-        Sort::Who => arbiter_plan(who, Plan::Who),
+        Sort::Who => Plan::Who,
         Sort::Pause => arbiter_plan(who, Plan::Pause),
         Sort::Resume => arbiter_plan(who, Plan::Resume),
         Sort::Call(call) => arbiter_plan(who, barred(standing.bar, Plan::Call(call))),
