@@ -9,7 +9,7 @@ use std::alloc::AllocError;
 use thiserror::Error;
 
 /// What is wrong with a line.
-#[derive(Clone, Copy, Debug, PartialEq, Eq, Error)]
+#[derive(Clone, Copy, Debug, Error)]
 pub enum LineFault {
     /// It is no player's: NAME ROLE SUM FULL NAME.
     #[error("is not NAME ROLE SUM FULL NAME")]
@@ -26,7 +26,7 @@ pub enum LineFault {
 }
 
 /// Why a text is not read as a players' file. Lines are numbered from 1.
-#[derive(Clone, Copy, Debug, PartialEq, Eq, Error)]
+#[derive(Clone, Copy, Debug, Error)]
 pub enum PlayersFault {
     /// The first byte that is no UTF-8 stands in this line.
     #[error("line {0} of the players' file is no UTF-8")]
@@ -47,7 +47,7 @@ impl From<AllocError> for PlayersFault {
 }
 
 /// Why a text is not taken for the players' file while a lobby serves by the one before.
-#[derive(Clone, Copy, Debug, PartialEq, Eq, Error)]
+#[derive(Clone, Copy, Debug, Error)]
 pub enum RereadFault {
     /// It is none.
     #[error("{0}")]
@@ -61,7 +61,7 @@ pub enum RereadFault {
 }
 
 /// Why a player is not put into a players' file.
-#[derive(Clone, Copy, Debug, PartialEq, Eq, Error)]
+#[derive(Clone, Copy, Debug, Error)]
 pub enum AddFault {
     /// The file is none.
     #[error("{0}")]

@@ -6,7 +6,7 @@ use std::alloc::AllocError;
 use thiserror::Error;
 
 /// What is wrong with a row.
-#[derive(Clone, Copy, Debug, PartialEq, Eq, Error)]
+#[derive(Clone, Copy, Debug, Error)]
 pub enum RowFault {
     #[error("it has not as many fields as the first row")]
     BadShape,
@@ -35,7 +35,7 @@ pub enum RowFault {
 }
 
 /// Why a text is no file of particulars.
-#[derive(Clone, Copy, Debug, PartialEq, Eq, Error)]
+#[derive(Clone, Copy, Debug, Error)]
 pub enum RosterFault {
     #[error("the first row has no column name")]
     NoNames,

@@ -33,7 +33,7 @@ pub struct Tournament<'a> {
 }
 
 /// Why no report is made.
-#[derive(Clone, Copy, Debug, PartialEq, Eq, Error)]
+#[derive(Clone, Copy, Debug, Error)]
 pub enum Fault {
     #[error("more than 9,999 players have no room in the columns of a report")]
     TooManyPlayers,

@@ -52,7 +52,7 @@ fn push_marked(to: &mut String, mark: &str, text: &str) -> Result<()> {
 // A message, behind the numbers of those who are told it, or behind `log`.
 fn push_told(alloc: Global, to: &mut String, one: &Message) -> Result<()> {
     let mut mark = String::new(alloc);
-    if one.kind == Kind::Log {
+    if matches!(one.kind, Kind::Log) {
         mark.push_str("log ")?;
     }
     for browser in one.to.as_slice() {
