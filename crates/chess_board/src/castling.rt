@@ -8,7 +8,7 @@ use bitflags::{Flag, Flags, bitflag_items};
 use chess_bits::{Colour, Square};
 
 /// The wing to which a king castles (FIDE article 3.8.2).
-#[derive(Clone, Copy, PartialEq, Eq)]
+#[derive(Clone, Copy)]
 pub enum Wing {
     King,
     Queen,

@@ -14,7 +14,7 @@ pub struct Parts {
 }
 
 /// Why parts are no valid position: the first of these conditions that they break.
-#[derive(Clone, Copy, Debug, PartialEq, Eq, Error)]
+#[derive(Clone, Copy, Debug, Error)]
 pub enum BadBoard {
     /// A side has no king, or more than one.
     #[error("a side has no king, or more than one")]

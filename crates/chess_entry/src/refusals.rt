@@ -1,5 +1,5 @@
 /// Why a command is refused. After any refusal nothing has changed.
-#[derive(Clone, Copy, PartialEq, Eq)]
+#[derive(Clone, Copy)]
 pub enum Refusal {
     /// 1: the line has none of the forms of the protocol.
     BadLine,

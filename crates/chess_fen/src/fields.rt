@@ -16,7 +16,7 @@ use itoa::Buffer;
 use thiserror::Error;
 
 /// Why a text is no FEN of a valid position: the first fault, in this order.
-#[derive(Clone, Copy, Debug, PartialEq, Eq, Error)]
+#[derive(Clone, Copy, Debug, Error)]
 pub enum FenError {
     /// It is not six fields that are not empty, with one space between.
     #[error("a FEN is six fields with one space between")]

@@ -7,7 +7,7 @@ use text_lines::FeedFault;
 use thiserror::Error;
 
 /// Why a hub refuses a call.
-#[derive(Clone, Copy, Debug, PartialEq, Eq, Error)]
+#[derive(Clone, Copy, Debug, Error)]
 pub enum HubFault {
     /// There are as many sessions as there may be.
     #[error("all 64 places are taken")]

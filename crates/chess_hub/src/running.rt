@@ -17,7 +17,7 @@ use text_lines::{LoopFault, Reads, answer_lines};
 use thiserror::Error;
 
 /// Why a run ends before its input does.
-#[derive(Clone, Copy, Debug, PartialEq, Eq, Error)]
+#[derive(Clone, Copy, Debug, Error)]
 pub enum RunFault {
     /// A read failed, or reads did not come to an end.
     #[error("a read failed, or reads did not come to an end")]

@@ -19,7 +19,7 @@ pub type Sid = usize;
 pub(crate) const SESSION_ROOM: usize = 64;
 
 /// Why a session did not begin.
-#[derive(Clone, Copy, PartialEq, Eq)]
+#[derive(Clone, Copy)]
 pub(crate) enum ConnectFault {
     /// There are as many sessions as there may be.
     Busy,

@@ -11,7 +11,7 @@ use chess_san::rewound;
 use std::alloc::{AllocError, Global};
 
 /// Why a side cannot checkmate.
-#[derive(Clone, Copy, Debug, PartialEq, Eq)]
+#[derive(Clone, Copy)]
 pub enum Reason {
     /// It has its king alone.
     KingAlone,

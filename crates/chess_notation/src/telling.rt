@@ -1,5 +1,5 @@
 /// Where a man that may go to the same square is looked for: on the board, or on the file or the rank of another man.
-#[derive(Clone, Copy, PartialEq, Eq)]
+#[derive(Clone, Copy)]
 pub enum Among {
     Board,
     File,
@@ -7,7 +7,7 @@ pub enum Among {
 }
 
 /// What a text tells of the square that a piece leaves (PGN Standard, section 8.2.3.4).
-#[derive(Clone, Copy, PartialEq, Eq)]
+#[derive(Clone, Copy)]
 pub enum Origin {
     Nothing,
     File,
@@ -16,7 +16,7 @@ pub enum Origin {
 }
 
 /// What a move threatens: nothing, check or mate (PGN Standard, section 8.2.3.5).
-#[derive(Clone, Copy, PartialEq, Eq)]
+#[derive(Clone, Copy)]
 pub enum Threat {
     Nothing,
     Check,

@@ -1,7 +1,7 @@
 //! Why the session of a client is closed.
 
 /// Why the session of a client is closed.
-#[derive(Clone, Copy, PartialEq, Eq)]
+#[derive(Clone, Copy)]
 pub enum Closing {
     /// A read failed, or a write.
     Fault,

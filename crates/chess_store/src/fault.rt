@@ -4,7 +4,7 @@ use std::alloc::AllocError;
 use thiserror::Error;
 
 /// Why a store refuses a call.
-#[derive(Clone, Copy, Debug, PartialEq, Eq, Error)]
+#[derive(Clone, Copy, Debug, Error)]
 pub enum StoreFault {
     /// A header slot starts with the eight bytes of a header: the device may hold a journal.
     #[error("the device holds a journal already, or what begins like one")]

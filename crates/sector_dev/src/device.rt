@@ -30,7 +30,7 @@ pub enum Sector {
 }
 
 /// What becomes of a pending write in a crash.
-#[derive(Clone, Copy, PartialEq, Eq)]
+#[derive(Clone, Copy)]
 pub enum Fate {
     /// The sector is as though it had not been written.
     Lost,

@@ -12,16 +12,13 @@ use std::convert::Infallible;
 use std::io::{Read, Write};
 use std::marker::Model;
 use text_lines::{Answer, Answerer, LoopFault, Reads, answer_lines, without_return};
-use thiserror::Error;
 
 /// Why the loop broke off.
-#[derive(Clone, Copy, Debug, PartialEq, Eq, Error)]
+#[derive(Clone, Copy)]
 pub enum BoardFault {
     /// A read failed, or reads did not come to an end.
-    #[error("a read failed, or reads did not come to an end")]
     Read,
     /// A write failed.
-    #[error("a write failed")]
     Write,
 }
 

@@ -7,41 +7,30 @@ use crate::board_loop::BoardFault;
 use chess_hub::HubFault;
 use chess_store::StoreFault;
 use clap::error::ErrorKind;
-use thiserror::Error;
 
 /// What can break a run off.
-#[derive(Clone, Copy, Debug, PartialEq, Eq, Error)]
+#[derive(Clone, Copy)]
 pub enum Fault {
     /// The journal's file cannot be opened, made or lengthened, or another program has it open.
-    #[error("the file cannot be opened, made or lengthened")]
     File,
     /// A read of the input failed, or reads did not come to an end.
-    #[error("a read of the input failed, or reads did not come to an end")]
     Read,
     /// A write of the output failed.
-    #[error("a write of the output failed")]
     Write,
     /// The table's limits are above those that are asked for.
-    #[error("a limit of the journal is above the one asked for")]
     Limits,
     /// The port cannot be bound.
-    #[error("the port or the socket cannot be listened on")]
     Socket,
     /// A line of the input was too long, and its farewell is written.
-    #[error("a line of the input has more than 255 bytes")]
     LineTooLong,
     /// The journal that is read without a lock changed too fast.
-    #[error("the journal changed too fast to be read")]
     Changing,
     /// Memory was refused while the words of the command line were read, or for a text.
-    #[error("memory was refused")]
     NoMemory,
     /// The store refused.
-    #[error("the journal's store refused")]
-    Store(#[source] StoreFault),
+    Store(StoreFault),
     /// The hub refused.
-    #[error("the hub of the players' sessions refused")]
-    Hub(#[source] HubFault),
+    Hub(HubFault),
 }
 
 /// How a run ends.

@@ -72,7 +72,7 @@ impl fmt::Display for Place<'_> {
 }
 
 /// By which clock the moments of a server go on.
-#[derive(Clone, Copy, PartialEq, Eq)]
+#[derive(Clone, Copy)]
 pub enum Pacing {
     /// By the system's: the games' clocks run on while nothing is served.
     System,

@@ -12,7 +12,7 @@ fn is_called(line: &[u8]) -> bool {
 
 fn feed(rt: &impl Abort, hub: &mut Hub<MemoryDevice>, sid: Sid, piece: &str) {
     assert!(rt; hub.is_open(sid) && piece.len() <= 4_096);
-    assert!(rt; hub.feed(sid, piece.as_bytes()) == Ok(()));
+    assert!(rt; hub.feed(sid, piece.as_bytes()).is_ok());
 }
 
 // The next answer of a session is this.
@@ -39,7 +39,7 @@ fn check_pieces(rt: &impl Abort, hub: &mut Hub<MemoryDevice>) {
         feed(rt, hub, sid, piece);
     }
     let turned: Result<(), HubFault> = hub.turn(1_000, 64);
-    assert!(rt; turned == Ok(()));
+    assert!(rt; turned.is_ok());
     for (sid, wanted) in [
         (a, "ok name ann"),
         (b, "ok name bob"),
@@ -64,7 +64,8 @@ fn check_long(rt: &impl Abort, hub: &mut Hub<MemoryDevice>) {
     assert!(rt; hub.waiting(sid) == 0 && !hub.ended(sid));
     check_answer(rt, hub, sid, "bye LineTooLong");
     assert!(rt; hub.is_open(sid) && hub.ended(sid));
-    assert!(rt; hub.feed(sid, b"list\n") == Err(HubFault::LineTooLong));
+    let is_long = matches!(hub.feed(sid, b"list\n"), Err(HubFault::LineTooLong));
+    assert!(rt; is_long);
     assert!(rt; hub.is_open(sid));
     hub.close(sid);
     assert!(rt; !hub.is_open(sid));

@@ -38,7 +38,8 @@ fn place(fault: FenError) -> u8 {
 fn texts_of_positions(rt: HostRuntime) {
     for (at, (text, fault)) in FAULTS.iter().enumerate() {
         let read: Result<Board, FenError> = fen_read(text);
-        assert!(rt; read.err() == Some(*fault) && place(*fault) as usize == at);
+        let found = place(read.err().expect(&rt, "a fault")) as usize;
+        assert!(rt; found == at && place(*fault) as usize == at);
     }
     let written: ArrayString<96> = fen_write(&Board::initial());
     assert!(rt; written.as_str() == "rnbqkbnr/pppppppp/8/8/8/8/PPPPPPPP/RNBQKBNR w KQkq - 0 1");

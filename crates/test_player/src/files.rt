@@ -128,7 +128,7 @@ impl<'a> FilePlayer<'a> {
             Ok(store) => return Ok(store),
             Err(refused) => refused,
         };
-        if refused.fault != StoreFault::Exists {
+        if !matches!(refused.fault, StoreFault::Exists) {
             return Err(refused.fault);
         }
         match Store::open(self.rt.alloc(), refused.dev) {

@@ -28,7 +28,8 @@ fn at_home(fullmove: u16) -> Parts {
 // No game has a move 0, and unknown flags are left out.
 #[test]
 fn parts_make_a_board_or_not(rt: HostRuntime) {
-    assert!(rt; Board::try_new(at_home(0)).err() == Some(BadBoard::Counter));
+    let is_refused = matches!(Board::try_new(at_home(0)), Err(BadBoard::Counter));
+    assert!(rt; is_refused);
     let board = Board::try_new(at_home(1)).expect(&rt, "a board");
     assert!(rt; board.rights().bits() == 15);
 }

@@ -64,9 +64,19 @@ static WIDENED: [Row; 2] = [
     ("cyd", Asked::Open, None),
 ];
 
+// Whether an act was refused as a row says.
+fn is_wanted(found: Option<Refusal>, wanted: Option<Refusal>) -> bool {
+    matches!(
+        (found, wanted),
+        (None, None)
+            | (Some(Refusal::TooLong), Some(Refusal::TooLong))
+            | (Some(Refusal::TooManyGames), Some(Refusal::TooManyGames))
+    )
+}
+
 fn check_rows(rt: &impl Abort, table: &mut Table, rows: &[Row]) {
     for (who, asked, wanted) in rows {
-        assert!(rt; refusal(rt, table, who, asked) == *wanted);
+        assert!(rt; is_wanted(refusal(rt, table, who, asked), *wanted));
     }
 }
 
