@@ -40,7 +40,7 @@ pub fn is_table_act(text: &str) -> bool
     ensures { result ≡ spec.is_table_act text.now }
 {
     let (word, _) = cut_word(line_said(text));
-    word == "open" || word == "join" || word == "drop" || word == "pair"
+    matches!(word, "open" | "join" | "drop" | "pair")
 }
 
 /// Whether an answer tells how a game stands.

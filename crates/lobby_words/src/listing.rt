@@ -59,7 +59,7 @@ pub fn ends_wait(text: &str) -> bool
     ensures { result ≡ spec.ends_wait text.now }
 {
     let (word, _) = cut_word(line_said(text));
-    word == "join" || word == "drop" || word == "pair"
+    matches!(word, "join" | "drop" | "pair")
 }
 
 /// A seat of this player in the game of a number, which stands so; none where no player can have the name.

@@ -89,7 +89,7 @@ pub fn is_message(text: &str) -> bool
 fn is_show_word(word: &str) -> bool
     ensures { result ≡ words.is_show_word word.now }
 {
-    word == "show" || word == "fen" || word == "pgn"
+    matches!(word, "show" | "fen" | "pgn")
 }
 
 // Whether each byte is a digit.
@@ -122,13 +122,10 @@ fn is_read(text: &str) -> bool
 pub fn is_play_word(word: &str) -> bool
     ensures { result ≡ words.is_play_word word.now }
 {
-    word == "move"
-        || word == "offer"
-        || word == "accept"
-        || word == "decline"
-        || word == "resign"
-        || word == "claim"
-        || word == "flag"
+    matches!(
+        word,
+        "move" | "offer" | "accept" | "decline" | "resign" | "claim" | "flag"
+    )
 }
 
 // Whether a line of the server with this word is an act, but `drop`.
@@ -136,7 +133,7 @@ pub fn is_play_word(word: &str) -> bool
 fn is_act_word(word: &str) -> bool
     ensures { result ≡ words.is_act_word word.now }
 {
-    word == "open" || word == "join" || is_play_word(word)
+    matches!(word, "open" | "join") || is_play_word(word)
 }
 
 /// The name in a message `as NAME LINE`.
@@ -238,22 +235,15 @@ fn as_sort(text: &str) -> Sort
 fn whole_sort(text: &str) -> Sort
     ensures { result ≡ words.whole_sort text.now }
 {
-    if text == "players" {
-        Sort::Players
-    } else if text == "who" {
-        Sort::Who
-    } else if text == "offers" {
-        Sort::Offers
-    } else if text == "pause entries" {
-        Sort::Pause
-    } else if text == "resume entries" {
-        Sort::Resume
-    } else if text == "lobby" {
-        Sort::Lobby
-    } else if text == "leave lobby" {
-        Sort::LeaveLobby
-    } else {
-        call_sort(text)
+    match text {
+        "players" => Sort::Players,
+        "who" => Sort::Who,
+        "offers" => Sort::Offers,
+        "pause entries" => Sort::Pause,
+        "resume entries" => Sort::Resume,
+        "lobby" => Sort::Lobby,
+        "leave lobby" => Sort::LeaveLobby,
+        _ => call_sort(text),
     }
 }
 
@@ -288,27 +278,21 @@ pub fn is_of_clocks(text: &str) -> bool
     ensures { result ≡ words.is_of_clocks text.now }
 {
     let (word, _) = cut_word(text);
-    word == "stop" || word == "start"
+    matches!(word, "stop" | "start")
 }
 
 // What a message of the lobby's own words asks for.
 fn own_sort(word: &str, text: &str) -> Sort
     ensures { result ≡ words.own_sort word.now text.now }
 {
-    if word == "login" {
-        Sort::Login
-    } else if word == "watch" {
-        Sort::Watch
-    } else if word == "line" {
-        Sort::Line
-    } else if word == "room" {
-        Sort::Room
-    } else if word == "moves" {
-        Sort::Moves
-    } else if word == "leave" && text != "leave lobby" {
-        Sort::Leave
-    } else {
-        arbiter_sort(word, text)
+    match word {
+        "login" => Sort::Login,
+        "watch" => Sort::Watch,
+        "line" => Sort::Line,
+        "room" => Sort::Room,
+        "moves" => Sort::Moves,
+        "leave" if text != "leave lobby" => Sort::Leave,
+        _ => arbiter_sort(word, text),
     }
 }
 
@@ -316,18 +300,13 @@ fn own_sort(word: &str, text: &str) -> Sort
 fn arbiter_sort(word: &str, text: &str) -> Sort
     ensures { result ≡ words.arbiter_sort word.now text.now }
 {
-    if word == "link" {
-        Sort::Link
-    } else if word == "close" {
-        Sort::Close
-    } else if word == "pair" {
-        pair_sort(text)
-    } else if word == "player" {
-        Sort::Player
-    } else if word == "unpair" {
-        Sort::Unpair
-    } else {
-        whole_sort(text)
+    match word {
+        "link" => Sort::Link,
+        "close" => Sort::Close,
+        "pair" => pair_sort(text),
+        "player" => Sort::Player,
+        "unpair" => Sort::Unpair,
+        _ => whole_sort(text),
     }
 }
 
