@@ -146,10 +146,9 @@ def instructions(words, given):
 
 
 def used(pid):
-    """The seconds of a processor that a process has taken."""
-    with open('/proc/%d/stat' % pid) as file:
-        fields = file.read().rpartition(')')[2].split()
-    return (int(fields[11]) + int(fields[12])) / os.sysconf('SC_CLK_TCK')
+    """The seconds of a processor that a process of one thread has taken."""
+    with open('/proc/%d/schedstat' % pid) as file:
+        return int(file.read().split()[0]) / 1e9
 
 
 def memory(pid, what='VmRSS'):
