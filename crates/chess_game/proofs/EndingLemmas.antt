@@ -12,6 +12,7 @@ use Rattle.chess_board.specs.Position.{Position}
 use Rattle.chess_board.specs.Next.{next}
 use Rattle.chess_board.specs.Line.{positions_of}
 use Rattle.chess_board.proofs.Deciding.{Decides-nat_le}
+use Rattle.chess_moves.specs.Moves.{HasLegal}
 use Rattle.chess_repeat.specs.Key.{key_of}
 use Rattle.chess_repeat.specs.History.{is_key}
 use Rattle.chess_repeat.proofs.Counting.{count_by-push}
@@ -28,6 +29,13 @@ use Rattle.chess_entry.specs.State.{position_after}
 use Rattle.chess_entry.specs.Outcome.{times, ending, ending_after, is_granted, flag_result, flag_fallen}
 use Rattle.chess_entry.specs.Verdict.{is_finished_at}
 use Rattle.chess_game.proofs.LineLemmas.{position_after-push, positions_of-push, length-positions_of, quiet_run-positions_of}
+
+-- who has a legal move is neither checkmated nor stalemated
+pub no_mate : (p : Position) → HasLegal p → ¬ IsCheckmate p
+no_mate p legal mate = mate.stuck legal
+
+pub no_stalemate : (p : Position) → HasLegal p → ¬ IsStalemate p
+no_stalemate p legal stale = stale.stuck legal
 
 -- the ending by the tests, for any counts
 abbrev ending_by_tests : Bool → Bool → Bool → Bool → Bool → GameResult → Option Ending

@@ -36,6 +36,12 @@ IsReplayed-none start line is = record {
   ends = refl;
 }
 
+pub IsReplayed-begun : (start : Position) (line : ScoresheetState) → line ≡ record { start = start; moves = [] }
+    → IsReplayed start [] line (ending_by_last line.start line.moves)
+IsReplayed-begun start line is =
+    let P : ScoresheetState → Type 0 = λ l. IsReplayed start [] l (ending_by_last l.start l.moves) in
+    subst P (sym is) (IsReplayed-none start (record { start = start; moves = [] }) refl)
+
 -- the position that the line leads to
 last_is : (start : Position) (moves : List Move) (line : ScoresheetState) (by_line : Option Ending)
     → IsReplayed start moves line by_line → last_of line ≡ position_after start moves
@@ -62,6 +68,17 @@ IsReplayed-push start moves m line after by_line ends so_far goes_on legal pushe
       ends = is ∙ ap (λ (p : Position). ending_after p after.moves) same_start ∙ ap (ending_after start) same_moves
           ∙ sym (ending_by_last-push start moves m);
     }
+
+-- the same, where the ending is that of the line's own moves
+pub IsReplayed-placed : (start : Position) (moves : List Move) (m : Move) (line after : ScoresheetState)
+    → IsReplayed start moves line (ending_by_last line.start line.moves)
+    → ending_by_last line.start line.moves ≡ None → IsLegal (last_of line) m → after ≡ with_move line m
+    → IsReplayed start (moves ++ m ∷ []) after (ending_by_last after.start after.moves)
+IsReplayed-placed start moves m line after so_far goes_on legal pushed =
+    let P : ScoresheetState → Type 0 = λ l. ending_by_last l.start l.moves ≡ ending_after l.start l.moves in
+    IsReplayed-push start moves m line after (ending_by_last line.start line.moves)
+    (ending_by_last after.start after.moves) so_far goes_on legal pushed
+    (subst P (sym pushed) (ending_by_last-push line.start line.moves m))
 
 -- ---- room
 

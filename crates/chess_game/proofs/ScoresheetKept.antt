@@ -1,7 +1,8 @@
 -- What a line's parts answer is what its moves give, and its parts are kept with a move more.
-use Rattle.std.proofs.Common.{ℕ, ◌≡◌, ◌+◌, ◌≤◌, Bool, true, false, List, [], ◌∷◌, ◌++◌, length, Option, refl, sym, ap, ◌∙◌, subst, arith}
-use Rattle.std.specs.Prelude.{IsTrue, ◌↔◌, IfSome, IfNone}
-use Rattle.std.proofs.lemmas.List.{length-map}
+use Rattle.std.proofs.Common.{ℕ, ◌≡◌, ◌+◌, ◌≤◌, Bool, true, false, List, [], ◌∷◌, ◌++◌, length, Option, None, refl, sym, ap, ◌∙◌, subst, arith}
+use Rattle.std.specs.Prelude.{IsTrue, ◌↔◌, ◌==◌, IfSome, IfNone}
+use Rattle.std.proofs.lemmas.Bool.{eqb-true, eqb-false}
+use Rattle.std.proofs.lemmas.List.{length-map, nil_from_length}
 use Rattle.chess_board.specs.declared.moves.Move.{Move}
 use Rattle.chess_board.specs.Position.{Position}
 use Rattle.chess_board.specs.Next.{next}
@@ -12,8 +13,9 @@ use Rattle.chess_end.specs.declared.ending.Ending.{Ending}
 use Rattle.chess_end.specs.Ending.{IsEnding, IsRunning}
 use Rattle.chess_entry.specs.State.{position_after}
 use Rattle.chess_entry.specs.Outcome.{times, ending_after, is_granted}
+use Rattle.chess_entry.specs.Bounds.{ending_by_last}
 use Rattle.chess_game.specs.declared.scoresheet.Scoresheet.TheInside.{Inside}
-use Rattle.chess_game.specs.Scoresheet.{ScoresheetState, last_of}
+use Rattle.chess_game.specs.Scoresheet.{ScoresheetState, last_of, times_of, with_move}
 use Rattle.chess_game.specs.ScoresheetInside.{scoresheet_of, IsSoundScoresheet}
 use Rattle.chess_game.proofs.LineLemmas.{position_after-push, positions_of-push, length-positions_of}
 use Rattle.chess_game.proofs.EndingLemmas.{ending_after-answered, granted_fifty, granted_three, times-push, times-at_most}
@@ -24,19 +26,51 @@ counted_times : (g : Inside) (p : Position) (board : Position) (n : ℕ) → IsS
 counted_times g p board n sound counted same =
     counted ∙ ap (λ (b : Position). count_in g.history.counts (key_of b)) same ∙ sound.history.counts (key_of p)
 
-pub ending-answered : (g : Inside) (line : ScoresheetState) (t q : ℕ) (result : Option Ending) → scoresheet_of g ≡ line → IsSoundScoresheet g
-    → t ≡ count_in g.history.counts (key_of g.board) → q ≡ g.board.halfmove
-    → IfSome result (IsEnding g.board t q) → IfNone result (IsRunning g.board t q)
+-- how often the last position has come
+pub times-answered : (g : Inside) (line : ScoresheetState) (n : ℕ) → scoresheet_of g ≡ line → IsSoundScoresheet g
+    → n ≡ count_in g.history.counts (key_of g.board) → n ≡ times_of line
+times-answered g line n same sound counted =
+    counted_times g (last_of (scoresheet_of g)) g.board n sound counted sound.board ∙ ap times_of same
+
+-- the board after a move is that of the line with it
+pub board-placed : (line after : ScoresheetState) (m : Move) (board : Position) → board ≡ next (last_of line) m
+    → after ≡ with_move line m → board ≡ last_of after
+board-placed line after m board made pushed =
+    made ∙ sym (position_after-push line.start line.moves m) ∙ ap last_of (sym pushed)
+
+-- the ending of a line's board
+pub ending-answered : (line : ScoresheetState) (board : Position) (t q : ℕ) (result : Option Ending)
+    → board ≡ last_of line → t ≡ times_of line → q ≡ board.halfmove
+    → IfSome result (IsEnding board t q) → IfNone result (IsRunning board t q)
     → result ≡ ending_after line.start line.moves
-ending-answered g line t q result same sound counted quiet some none =
-    let p = last_of (scoresheet_of g) in
+ending-answered line board t q result stands counted quiet some none =
     let Some_at : Position → Type 0 = λ b. IfSome result (IsEnding b t q) in
     let None_at : Position → Type 0 = λ b. IfNone result (IsRunning b t q) in
-    ending_after-answered g.start g.moves.items t q result
-    (counted_times g p g.board t sound counted sound.board)
-    (quiet ∙ ap (λ (b : Position). b.halfmove) sound.board)
-    (subst Some_at sound.board some) (subst None_at sound.board none)
-    ∙ ap (λ (l : ScoresheetState). ending_after l.start l.moves) same
+    ending_after-answered line.start line.moves t q result counted
+    (quiet ∙ ap (λ (b : Position). b.halfmove) stands) (subst Some_at stands some) (subst None_at stands none)
+
+-- a line without a move has no ending by its last
+pub ending_by_last-none : (line : ScoresheetState) → (length line.moves == 0) ≡ true
+    → ending_by_last line.start line.moves ≡ None
+ending_by_last-none line none =
+    let P : List Move → Type 0 = λ ms. ending_by_last line.start ms ≡ None in
+    subst P (sym (nil_from_length line.moves (eqb-true (length line.moves) 0 none))) refl
+
+-- of one with a move it is the last's
+ending_by_last-some : (start : Position) (moves : List Move) → (length moves == 0) ≡ false
+    → ending_after start moves ≡ ending_by_last start moves
+ending_by_last-some start [] some =
+    let none : List Move = [] in
+    absurd (eqb-false (length none) 0 some refl)
+ending_by_last-some start (m ∷ moves) some = refl
+
+pub ending_by_last-answered : (line : ScoresheetState) (board : Position) (t q : ℕ) (result : Option Ending)
+    → (length line.moves == 0) ≡ false → board ≡ last_of line → t ≡ times_of line → q ≡ board.halfmove
+    → IfSome result (IsEnding board t q) → IfNone result (IsRunning board t q)
+    → result ≡ ending_by_last line.start line.moves
+ending_by_last-answered line board t q result some stands counted quiet so none =
+    ending-answered line board t q result stands counted quiet so none
+    ∙ ending_by_last-some line.start line.moves some
 
 pub fifty-answered : (g : Inside) (line : ScoresheetState) (fifty b : Bool) (n : ℕ) → fifty ≡ true → scoresheet_of g ≡ line
     → IsSoundScoresheet g → IsTrue b ↔ (100 ≤ n) → n ≡ g.board.halfmove → b ≡ is_granted fifty line.start line.moves
