@@ -3,19 +3,20 @@ use Rattle.std.proofs.Common.{◌≡◌, ◌<◌, ◌≤◌, ◌+◌, ◌-◌, �
 use Rattle.std.specs.Prelude.{◌⊎◌, ◌↔◌, ◌*◌, ◌^◌, Some, IsTrue}
 use Rattle.std.specs.BTreeMap.{BTreeMap}
 use Rattle.lobby_web.specs.Browsing.{unread}
-use Rattle.lobby_talk.specs.Front.{has_act, may_be_act}
+use Rattle.lobby_talk.specs.Front.{may_be_act}
 use Rattle.lobby_talk.specs.declared.talk.Talk.{Talk}
 use Rattle.lobby_guests.specs.declared.guest.Guest.{Guest}
 use Rattle.lobby_guests.specs.declared.rounds.Asks.{Asks}
 use Rattle.lobby_guests.specs.Paces.{taken_until, payer_of, paid_by, may_act, acts_from, PaysIf, ActsAt, AreBetween}
-use Rattle.lobby_guests.specs.Guests.{MayBeAsked, IsPaced, earlier}
+use Rattle.lobby_guests.specs.Guests.{MayBeAsked, IsPaced, is_at_once, earlier}
 use Rattle.lobby_guests.specs.Rounds.{room_of, LetsAct, PaysAct, TakesTurn, HasTurn, IsToAsk}
 
--- one in whose front no act stands takes a turn, or has none
-pub turned : {S : Type 0} (talk : Talk) (guest : Guest S) (old new : Asks) (b : Bool) → has_act (unread guest.browser.stage) ≡ false →
+-- one who is not heard at once takes a turn, or has none
+pub turned : {S : Type 0} (talk : Talk) (guest : Guest S) (old new : Asks) (b : Bool)
+    → is_at_once (unread guest.browser.stage) ≡ false →
     TakesTurn b talk.desk guest old new → HasTurn b talk.desk guest old new
-turned talk guest old new true act takes = inr takes
-turned talk guest old new false act takes = (act, takes)
+turned talk guest old new true other takes = inr takes
+turned talk guest old new false other takes = (other, takes)
 
 no_other : (b : Bool) → b ≡ false → b ≡ true → ⊥
 no_other true is so = cc

@@ -344,9 +344,13 @@ pub record IsPaced {S : Type 0} (at : ℕ) (guest : Guest S) (room after : Askin
   pub pays : PaysIf is_taken at (payer_of room.talk.desk guest.number) room.paces after.paces
   pub next_act : after.next_act ≡ room.next_act
 
--- An act that stands in front is heard at once.
+-- whether who has this in front is heard at once: an act, or nothing at all
+abbrev pub is_at_once : List ℕ → Bool
+is_at_once front = (length front == 0) || has_act front
+
+-- It is heard at once, and takes nobody's turn.
 pub record IsActing {S : Type 0} (at : ℕ) (old new : Guest S) (room after : Asking) : Type 0 where
-  pub act : has_act (unread old.browser.stage) ≡ true
+  pub at_once : is_at_once (unread old.browser.stage) ≡ true
   pub heard : IsHeardNow at old new room.talk after.talk
   pub brief : after.brief ≡ room.brief
   pub long : after.long ≡ room.long
@@ -381,7 +385,7 @@ pub record IsAhead {S : Type 0} (at : ℕ) (old new : Guest S) (room after : Ask
 
 -- Or it stays where it is: it may not be asked, or it is not its turn.
 pub record IsPutOff {S : Type 0} (old new : Guest S) (room after : Asking) : Type 0 where
-  pub other : has_act (unread old.browser.stage) ≡ false
+  pub other : is_at_once (unread old.browser.stage) ≡ false
   pub no_turn : MayBeAsked room.talk.desk old → is_turn_of old room.brief room.long ≡ false
   pub guest : new ≡ old
   pub rest : after ≡ room

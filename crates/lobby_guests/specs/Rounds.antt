@@ -2,13 +2,13 @@
 use Rattle.std.specs.Prelude.{ℕ, ◌≡◌, ◌+◌, ◌⊎◌, Bool, true, false, Some}
 use Rattle.lobby_desk.specs.declared.desk.Desk.{Desk}
 use Rattle.lobby_web.specs.Browsing.{unread}
-use Rattle.lobby_talk.specs.Front.{has_act, has_brief, may_be_act}
+use Rattle.lobby_talk.specs.Front.{has_brief, may_be_act}
 use Rattle.lobby_guests.specs.declared.guest.Guest.{Guest}
 use Rattle.lobby_talk.specs.declared.talk.Talk.{Talk}
 use Rattle.lobby_guests.specs.declared.rounds.Asks.{Asks}
 use Rattle.lobby_guests.specs.declared.rounds.Strangers.{Strangers}
 use Rattle.lobby_guests.specs.Paces.{paid_by, may_act, acts_from, PaysIf}
-use Rattle.lobby_guests.specs.Guests.{Room, MayBeAsked, IsPaced, IsAhead, is_at, behind, is_turn_of, earlier}
+use Rattle.lobby_guests.specs.Guests.{Room, MayBeAsked, IsPaced, IsAhead, is_at, behind, is_at_once, is_turn_of, earlier}
 pub use Rattle.lobby_guests.specs.Guests.{room_of}
 
 -- the desk, and how many more who act for nobody are attended in this turn
@@ -52,12 +52,12 @@ TakesTurn true desk guest old new = MayBeAsked desk guest × (TakesBrief guest o
 TakesTurn false desk guest old new =
     (new ≡ old) × (MayBeAsked desk guest → is_turn_of guest old.brief old.long ≡ false)
 
--- The same, and an act has its turn at once, and takes nobody's.
+-- The same, and an act, or nothing at all, has its turn at once, and takes nobody's.
 abbrev pub HasTurn : {S : Type 0} → Bool → Desk → Guest S → Asks → Asks → Type 0
 HasTurn true desk guest old new =
-    (has_act (unread guest.browser.stage) ≡ true) × (new ≡ old) ⊎ TakesTurn true desk guest old new
+    (is_at_once (unread guest.browser.stage) ≡ true) × (new ≡ old) ⊎ TakesTurn true desk guest old new
 HasTurn false desk guest old new =
-    (has_act (unread guest.browser.stage) ≡ false) × TakesTurn false desk guest old new
+    (is_at_once (unread guest.browser.stage) ≡ false) × TakesTurn false desk guest old new
 
 -- One is asked that has its turn, and whose player pays for it where it may be an act; or it waits.
 abbrev pub IsToAsk : {S : Type 0} → Bool → Talk → ℕ → Guest S → Asks → Asks → Type 0

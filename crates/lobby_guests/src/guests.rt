@@ -91,12 +91,13 @@ fn takes_turn<S>(guest: &Guest<S>, asks: &mut Asks, talk: &Talk) -> bool
     true
 }
 
-// Whether it is the turn of a player's browser: where an act stands in front at once, and else where one is left; then
-// it has it.
+// Whether it is the turn of a player's browser: where an act stands in front at once, or nothing does, as of one to
+// whom something was written; and else where one is left; then it has it.
 fn has_turn<S>(guest: &Guest<S>, asks: &mut Asks, talk: &Talk) -> bool
     ensures { HasTurn result talk.now.desk guest.now asks.old asks.new }
 {
-    has_act(guest.unread()) || takes_turn(guest, asks, talk)
+    let unread = guest.unread();
+    unread.is_empty() || has_act(unread) || takes_turn(guest, asks, talk)
 }
 
 // The same where an act may stand in front: if its player may act, who pays for it if it may be taken.

@@ -58,10 +58,10 @@ returns-clause-served g c =
     } in
     let hears : IsPlayerHeard c.args.at read c.hear.new.self (room_of talk c.args.asks.now) (room_of c.hear.new.talk asks) =
     elim asked.2 [
-      | inl (act, same) ↦ inl (
+      | inl (at_once, same) ↦ inl (
         paced,
         inl (record {
-          act = act;
+          at_once = at_once;
           heard = heard;
           brief = rounds.brief ∙ ap (λ (a : Asks). a.brief) same;
           long = rounds.long ∙ ap (λ (a : Asks). a.long) same;
