@@ -17,9 +17,10 @@ use Rattle.chess_game.proofs.Refused.{no_ok}
 use Rattle.chess_game.proofs.scoresheet.Scoresheet.replay.Goals as goal
 
 pub loop-mv-init : goal.loop-mv-init
-loop-mv-init c =
-    (IsReplayed-begun c.args.start.now c.reserve.new.self (c.reserve.ensures ∙ c.in_ok-line.ensures),
-    c.times-times.ensures)
+loop-mv-init c = (
+  IsReplayed-begun c.args.start.now c.reserve.new.self (c.reserve.ensures ∙ c.in_ok-line.ensures),
+  c.times-times.ensures,
+)
 
 pub returns-in_err-line-clause-made : goal.returns-in_err-line-clause-made
 returns-in_err-line-clause-made c =
