@@ -43,8 +43,8 @@ module _ {S : Type 0} (talk : Talk) (at : ℕ) (guest : Guest S) where
   -- nobody pays by having a turn
   keeps : (old new : Asks) → HasTurn true talk.desk guest old new → (new.paces ≡ old.paces) × (new.next_act ≡ old.next_act)
   keeps old new (inl (act, same)) = (ap (λ (a : Asks). a.paces) same, ap (λ (a : Asks). a.next_act) same)
-  keeps old new (inr (other, may, inl (little, turn, is))) = (ap (λ (a : Asks). a.paces) is, ap (λ (a : Asks). a.next_act) is)
-  keeps old new (inr (other, may, inr (much, turn, is))) = (ap (λ (a : Asks). a.paces) is, ap (λ (a : Asks). a.next_act) is)
+  keeps old new (inr (other, (may, inl (little, turn, is)))) = (ap (λ (a : Asks). a.paces) is, ap (λ (a : Asks). a.next_act) is)
+  keeps old new (inr (other, (may, inr (much, turn, is)))) = (ap (λ (a : Asks). a.paces) is, ap (λ (a : Asks). a.next_act) is)
 
   -- it is asked, and its player pays if it may be taken
   pub paid : (old mid turned new : Asks) (player : ℕ) (pays : Bool) → player ≡ payer_of talk.desk guest.number →

@@ -68,7 +68,7 @@ returns-clause-served g c =
           asker = rounds.asker ∙ ap (λ (a : Asks). a.asker) same;
         }),
       )
-      | inr (other, may, one) ↦ elim one [
+      | inr (other, (may, one)) ↦ elim one [
         | inl (little, turn, is) ↦ inl (
           paced,
           inr (inl (record {
