@@ -17,16 +17,20 @@ none_in_front front none = ap (λ (b : Bool). b || has_act front) none
 
 pub returns-then-is_empty : goal.returns-then-is_empty
 returns-then-is_empty g c =
-    inl (none_in_front (unread c.args.guest.now.browser.stage)
-    (sym (ap (λ (bytes : List ℕ). length bytes == 0) c.unread-unread.ensures) ∙ sym c.is_empty.ensures ∙ c.if-is_empty.true),
-    refl)
+    inl (
+      none_in_front (unread c.args.guest.now.browser.stage)
+          (sym (ap (λ (bytes : List ℕ). length bytes == 0) c.unread-unread.ensures) ∙ sym c.is_empty.ensures ∙ c.if-is_empty.true),
+      refl,
+    )
 
 pub returns-then-has_act : goal.returns-then-has_act
 returns-then-has_act g c =
-    inl (front (unread c.args.guest.now.browser.stage) false true
-    (sym (ap (λ (bytes : List ℕ). length bytes == 0) c.unread-unread.ensures) ∙ sym c.is_empty.ensures ∙ c.if-is_empty.false)
-    (ap (λ (bytes : List ℕ). has_act bytes) (sym c.unread-unread.ensures) ∙ sym c.has_act.ensures ∙ c.if-has_act.true),
-    refl)
+    inl (
+      front (unread c.args.guest.now.browser.stage) false true
+          (sym (ap (λ (bytes : List ℕ). length bytes == 0) c.unread-unread.ensures) ∙ sym c.is_empty.ensures ∙ c.if-is_empty.false)
+          (ap (λ (bytes : List ℕ). has_act bytes) (sym c.unread-unread.ensures) ∙ sym c.has_act.ensures ∙ c.if-has_act.true),
+      refl,
+    )
 
 pub returns-else-has_act : goal.returns-else-has_act
 returns-else-has_act g c =
