@@ -185,7 +185,8 @@ def a_decision(hall):
     sue.click('#decide-board-find button').reads('#decide-found', 'No such board was told')
     sue.type('#decide-board-find [name=board]', '3').click('#decide-board-find button')
     sue.reads('#decide-title', 'board 3 of round 1: Wilhelmina Featherstonehaugh-Cholmondeley').shows('#decide-stands', 'bye 1', 'what it is worth')
-    sue.run(CHOSEN, 'H').type('#decide-form [name=reason]', 'asked for before the round')
+    sue.run(CHOSEN, 'H')
+    sue.type('#decide-form [name=reason]', 'asked for before the round')
     decides(hall, 1, 'The arbiter has decided board 3 of round 1, Wilhelmina Featherstonehaugh-Cholmondeley: bye ½. Why: '
             'asked for before the round', board=3, result='H', white='fay', black='')
     sue.reads('#decide-boards', 'Round 2, board 4: ').click('#decide-boards button')
