@@ -462,7 +462,8 @@ export class ArbiterView {
   }
 
   renderLog() {
-    const log = this.app.round.log();
+    const log = this.app.round.log(), wrong = this.app.round.wrong().join('; ');
+    setText(byId('round-wrong'), wrong && t`The club’s machine says of the round’s files: ${wrong}`);
     byId('desk-log').hidden = !log;
     if (!log) return;
     const { lines, sum, at, broken } = log;
