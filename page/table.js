@@ -238,7 +238,8 @@ export class TableView {
 
   mayMove(row) {
     const me = this.app.me();
-    return Boolean(row.white && row.black && row.side && (row.side === 'w' ? row.white : row.black) === me);
+    return Boolean(row.result === '*' && row.white && row.black && row.side
+      && (row.side === 'w' ? row.white : row.black) === me);
   }
 
   item(row, kind) {
