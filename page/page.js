@@ -159,11 +159,13 @@ class Page {
     this.retitle();
   }
 
-  /** The tab's title: what is shown, unless it is one's turn in a game that is not. */
+  /** The tab's title: what is shown, unless it is one's turn in a game that is not; before both, at no board of one's own
+   * game, a game that one is offered. */
   retitle() {
-    const own = this.view === this.table || this.isPlaying() ? [] : this.ownRunning(), { text } = this;
+    const offered = this.isPlaying() ? '' : this.challenges.offered();
+    const own = this.view === this.table || this.isPlaying() ? [] : this.ownRunning(), { text = t`Games` } = this;
     const yours = own.filter((row) => this.table.mayMove(row)).length;
-    const words = !yours ? text : yours === 1 ? t`Your turn in 1 game` : t`Your turn in ${yours} games`;
+    const words = offered || (!yours ? text : yours === 1 ? t`Your turn in 1 game` : t`Your turn in ${yours} games`);
     document.title = t`${words} · Chess club`;
   }
 
