@@ -16,7 +16,7 @@ const MOST_OWN = 10, MOST_ROOMS = 10;
 const KEPT_AFTER = 4000;             // milliseconds: so long after a game has left the table it is among the kept ones
 
 export class TableView {
-  /** app: {wire, me(), nameWords(name), openGame(line, note)}. */
+  /** app: {wire, me(), nameWords(name), openGame(line, note), others(), tellAgain()}. */
   constructor(app) {
     this.app = app;
     this.root = byId('table-view');
@@ -53,7 +53,7 @@ export class TableView {
     const before = this.rows;
     this.rows = new Map(rows.map((row) => [row.number, { ...before.get(row.number), ...row }]));
     if ([...before.values()].some((row) => wasPlayed(row) && !this.rows.has(row.number))) this.readLater();
-    if (!this.root.hidden) this.watchOwn();
+    this.watchOwn();
     this.render();
     this.askTimes();
     this.askRooms();
@@ -135,16 +135,18 @@ export class TableView {
       .find((row) => row.times === undefined);
   }
 
-  /** At the table one's own games are watched, so that it shows whose turn it is. */
+  /** At the table one's own games are watched, so that it shows whose turn it is, and at a board the others that go on. */
   async watchOwn() {
-    if (this.root.hidden || !this.app.me() || !this.app.reachable()) return;
-    for (const row of this.groups().own.slice(0, MOST_OWN)) {
+    const rows = this.root.hidden ? this.app.others() : this.groups().own;
+    if (!this.app.me() || !this.app.reachable()) return;
+    for (const row of rows.slice(0, MOST_OWN)) {
       // (one that was left for the table a moment ago is still watched, and its row knows no side yet)
       if (this.app.watched.has(row.number) && row.side) continue;
       const answer = await this.app.watch(row.number);
       const standing = answer[0].startsWith('ok ') && readStanding(answer.slice(1));
       const now = this.rows.get(row.number);
       if (standing && now) Object.assign(now, { side: standing.side, ply: standing.ply });
+      if (this.root.hidden) this.app.tellAgain();
       this.renderSoon();
     }
   }
