@@ -19,6 +19,7 @@ const LOST_BY = ['6.9', '5.1.2'];
 const FILLED = ['result', 'article', 'reason'], NOTHING = { result: '', article: '', reason: '' };
 const NO_NUMBER = -1;                 // in the place of a game's number, of a board without one
 const FORFEIT = { w: '-/+', b: '+/-', wb: '-/-' }; // of who did not come
+const LOST = { w: '0-1', b: '1-0', wb: '0-0' }; // and of a game that goes on from a position, which was played
 
 export class Decision {
   /** desk: {app, question, openings, absences}. */
@@ -295,12 +296,20 @@ function absentWords(result) {
 /** What is likely to be decided of a game, as the form has it, where these sides have not come and this is what the Laws
  * ask of it. */
 function likely({ ply, article, result, fen }, absent, law) {
-  const loser = loserOf({ result }), sides = ply < AGREED ? absent.join('') || loser : '';
-  if (sides) return { result: FORFEIT[sides], article: '6.7', reason: absentWords(FORFEIT[sides]) };
+  const loser = loserOf({ result }), isAnew = isFromStart({ ply, fen });
+  const sides = ply < AGREED ? absent.join('') || isAnew && loser : '';
+  if (sides) return { result: (isAnew ? FORFEIT : LOST)[sides], article: '6.7', reason: absentWords(FORFEIT[sides]) };
   if (loser && LOST_BY.includes(article) && (isFound(law) ? law.found === 'cannot' : !mayMate(OTHER[loser], fen))) {
     return { result: '1/2-1/2', article, reason: t`${colourWord(OTHER[loser])} cannot mate by any legal moves` };
   }
   return NOTHING;
+}
+
+/** Whether a game began from the initial position: where one that was adjourned goes on, its FEN counts more moves than
+ * were made in it. */
+function isFromStart({ ply, fen }) {
+  const [, side, , , , number] = fen.split(' ');
+  return ply === 2 * Number(number) - (side === 'w' ? 2 : 1);
 }
 
 /** Whether the round's file tells of a game whether its winner can mate. */
@@ -317,7 +326,7 @@ function saidByLaws(standing, law) {
     return t`By 6.7 who comes after the default time loses, unless the arbiter decides otherwise. The decision ends the
       game: a resignation is entered for who has not come.`;
   }
-  if (!loser || !LOST_BY.includes(article) || ply < AGREED) return '';
+  if (!loser || !LOST_BY.includes(article) || ply < AGREED && isFromStart(standing)) return '';
   const winner = OTHER[loser], words = colourWord(winner), men = menWords(fen, winner);
   if (!mayMate(winner, fen)) {
     return t`By ${article} it is a draw: ${words} cannot mate by any legal moves. ${words} has: ${men};

@@ -100,7 +100,7 @@ export class Waits {
           called it` });
       }
       const absent = this.desk.absences.words(standing, at);
-      if (absent) found.push({ row, kind: 'late', words: absent, standing, at });
+      if (absent) found.push({ row, kind: 'late', words: absent });
       const offers = SIDES.filter((side) => standing.offer.includes(side)).map(colourWord);
       if (offers.length) {
         const words = offers.length > 1 ? t`White and Black offer a draw` : t`${offers[0]} offers a draw`;
@@ -152,15 +152,14 @@ export class Waits {
     else if (found.length > 1) say(t`${found.length} more things wait for an arbiter.`);
   }
 
-  item({ row, kind, words, names: told, goesOn, standing, at }) {
+  item({ row, kind, words, names: told, goesOn }) {
     const names = (told || [row.white, row.black].map((name) => this.desk.app.nameWords(name))).join(' – ');
     const { desk } = this, isDecided = kind === 'late' || kind === 'law' && !goesOn;
-    const decide = () => (standing ? desk.decision.ask(standing, at) : desk.decision.lookUp(row.number));
     return make('li', { class: `wait ${kind}` }, make('span', { class: 'wait-words' }, words),
       make('span', { class: 'wait-game' }, t`Game ${row.number}: ${names}`, ' ',
       make('span', { class: 'wait-place small' })),
       make('button', { type: 'button', 'data-key': `show-${row.number}-${kind}`,
-        onclick: () => (isDecided ? decide() : desk.showGame(row.number)) },
+        onclick: () => (isDecided ? desk.decision.lookUp(row.number) : desk.showGame(row.number)) },
       isDecided ? t`Decide the result` : t`Show it`, make('span', { class: 'unseen' }, t`, game ${row.number}`)));
   }
 }

@@ -112,6 +112,7 @@ impl Scoresheet {
         ensures none { IfOk result (λ told. IfNone told (¬ IsScoresheet start.now moves.now)) }
     {
         let mut line = Scoresheet::new(alloc, start)?;
+        line.reserve(moves.len())?;
         let mut times = line.times();
         for mv in moves {
             let Some(board) = after_legal(line.board(), *mv) else {
@@ -124,6 +125,14 @@ impl Scoresheet {
         }
         let by_line = line.ending(times);
         Ok(Some(Replayed { line, by_line }))
+    }
+
+    // Makes room for so many more moves. It fails where memory is refused; all is as it was either way.
+    fn reserve(&mut self, more: usize) -> Result<(), AllocError>
+        ensures { self.new ≡ self.old }
+    {
+        self.moves.reserve(more)?;
+        self.history.reserve(more)
     }
 
     // How often the last position has come.

@@ -71,6 +71,14 @@ impl History {
         })
     }
 
+    /// Makes room for so many more positions. It fails where memory is refused; all is as it was either way.
+    pub fn reserve(&mut self, more: usize) -> Result<(), AllocError>
+        ensures { self.new ≡ self.old }
+    {
+        self.clocks.reserve(more)?;
+        self.counts.reserve(more)
+    }
+
     /// How many positions there are, 1 to 65,535.
     pub fn len(&self) -> u32
         ensures clocks { result ≡ length self.now.clocks }

@@ -15,7 +15,7 @@ use Rattle.lobby_guests.specs.Rounds.{room_of, LetsAct, PaysAct, TakesTurn, HasT
 pub turned : {S : Type 0} (talk : Talk) (guest : Guest S) (old new : Asks) (b : Bool)
     → is_at_once (unread guest.browser.stage) ≡ false →
     TakesTurn b talk.desk guest old new → HasTurn b talk.desk guest old new
-turned talk guest old new true other takes = inr takes
+turned talk guest old new true other takes = inr (other, takes)
 turned talk guest old new false other takes = (other, takes)
 
 no_other : (b : Bool) → b ≡ false → b ≡ true → ⊥
@@ -43,8 +43,8 @@ module _ {S : Type 0} (talk : Talk) (at : ℕ) (guest : Guest S) where
   -- nobody pays by having a turn
   keeps : (old new : Asks) → HasTurn true talk.desk guest old new → (new.paces ≡ old.paces) × (new.next_act ≡ old.next_act)
   keeps old new (inl (act, same)) = (ap (λ (a : Asks). a.paces) same, ap (λ (a : Asks). a.next_act) same)
-  keeps old new (inr (may, inl (little, turn, is))) = (ap (λ (a : Asks). a.paces) is, ap (λ (a : Asks). a.next_act) is)
-  keeps old new (inr (may, inr (much, turn, is))) = (ap (λ (a : Asks). a.paces) is, ap (λ (a : Asks). a.next_act) is)
+  keeps old new (inr (other, (may, inl (little, turn, is)))) = (ap (λ (a : Asks). a.paces) is, ap (λ (a : Asks). a.next_act) is)
+  keeps old new (inr (other, (may, inr (much, turn, is)))) = (ap (λ (a : Asks). a.paces) is, ap (λ (a : Asks). a.next_act) is)
 
   -- it is asked, and its player pays if it may be taken
   pub paid : (old mid turned new : Asks) (player : ℕ) (pays : Bool) → player ≡ payer_of talk.desk guest.number →

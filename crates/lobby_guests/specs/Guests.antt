@@ -368,6 +368,7 @@ pub record IsBrief {S : Type 0} (at : ℕ) (old new : Guest S) (room after : Ask
 
 -- what may ask for much, in a round of its own.
 pub record IsLong {S : Type 0} (at : ℕ) (old new : Guest S) (room after : Asking) : Type 0 where
+  pub other : is_at_once (unread old.browser.stage) ≡ false
   pub much : has_brief (unread old.browser.stage) ≡ false
   pub may : MayBeAsked room.talk.desk old
   pub heard : IsHeardNow at old new room.talk after.talk

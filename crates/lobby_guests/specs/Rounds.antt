@@ -55,7 +55,8 @@ TakesTurn false desk guest old new =
 -- The same, and an act, or nothing at all, has its turn at once, and takes nobody's.
 abbrev pub HasTurn : {S : Type 0} → Bool → Desk → Guest S → Asks → Asks → Type 0
 HasTurn true desk guest old new =
-    (is_at_once (unread guest.browser.stage) ≡ true) × (new ≡ old) ⊎ TakesTurn true desk guest old new
+    (is_at_once (unread guest.browser.stage) ≡ true) × (new ≡ old)
+    ⊎ (is_at_once (unread guest.browser.stage) ≡ false) × TakesTurn true desk guest old new
 HasTurn false desk guest old new =
     (is_at_once (unread guest.browser.stage) ≡ false) × TakesTurn false desk guest old new
 

@@ -97,7 +97,10 @@ fn has_turn<S>(guest: &Guest<S>, asks: &mut Asks, talk: &Talk) -> bool
     ensures { HasTurn result talk.now.desk guest.now asks.old asks.new }
 {
     let unread = guest.unread();
-    unread.is_empty() || has_act(unread) || takes_turn(guest, asks, talk)
+    if unread.is_empty() {
+        return true;
+    }
+    has_act(unread) || takes_turn(guest, asks, talk)
 }
 
 // The same where an act may stand in front: if its player may act, who pays for it if it may be taken.

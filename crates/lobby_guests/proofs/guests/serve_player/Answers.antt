@@ -68,7 +68,7 @@ returns-clause-served g c =
           asker = rounds.asker ∙ ap (λ (a : Asks). a.asker) same;
         }),
       )
-      | inr (may, one) ↦ elim one [
+      | inr (other, (may, one)) ↦ elim one [
         | inl (little, turn, is) ↦ inl (
           paced,
           inr (inl (record {
@@ -84,6 +84,7 @@ returns-clause-served g c =
         | inr (much, turn, is) ↦ inl (
           paced,
           inr (inr (record {
+            other = other;
             much = much;
             may = may;
             heard = heard;

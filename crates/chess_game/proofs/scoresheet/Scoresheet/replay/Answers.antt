@@ -17,8 +17,10 @@ use Rattle.chess_game.proofs.Refused.{no_ok}
 use Rattle.chess_game.proofs.scoresheet.Scoresheet.replay.Goals as goal
 
 pub loop-mv-init : goal.loop-mv-init
-loop-mv-init c =
-    (IsReplayed-begun c.args.start.now c.in_ok-line.line c.in_ok-line.ensures, c.times-times.ensures)
+loop-mv-init c = (
+  IsReplayed-begun c.args.start.now c.reserve.new.self (c.reserve.ensures ∙ c.in_ok-line.ensures),
+  c.times-times.ensures,
+)
 
 pub returns-in_err-line-clause-made : goal.returns-in_err-line-clause-made
 returns-in_err-line-clause-made c =
@@ -29,6 +31,16 @@ pub returns-in_err-line-clause-none : goal.returns-in_err-line-clause-none
 returns-in_err-line-clause-none c =
     let e = err_from_is_err_and c.from_residual.result c.from_residual.ensures.1 in
     no_ok c.from_residual.result e.0 _ e.1
+
+pub returns-in_err-reserve-clause-made : goal.returns-in_err-reserve-clause-made
+returns-in_err-reserve-clause-made c =
+    let e = err_from_is_err_and c.from_residual-in_err-reserve.result c.from_residual-in_err-reserve.ensures.1 in
+    no_ok c.from_residual-in_err-reserve.result e.0 _ e.1
+
+pub returns-in_err-reserve-clause-none : goal.returns-in_err-reserve-clause-none
+returns-in_err-reserve-clause-none c =
+    let e = err_from_is_err_and c.from_residual-in_err-reserve.result c.from_residual-in_err-reserve.ensures.1 in
+    no_ok c.from_residual-in_err-reserve.result e.0 _ e.1
 
 pub returns-then-is_some-clause-made : goal.returns-then-is_some-clause-made
 returns-then-is_some-clause-made c = tt
