@@ -99,6 +99,7 @@ class Page {
     addEventListener('keydown', (event) => this.key(event));
     document.addEventListener('visibilitychange', () => {
       if (!document.hidden && this.view === this.game) this.game.refresh();
+      this.askAnew();
     });
     // (else who scrolls over a number changes it)
     const leave = (event) => event.target.matches('[type=number]:focus') && event.target.blur();

@@ -23,6 +23,7 @@ export class TableView {
     this.rows = new Map();
     this.all = new Set();
     this.last = [];                    // of the games that were kept the newest
+    this.isStale = false;              // newer ones were kept while the tab was hidden
     this.items = new Map();            // what an element shows -> the element
     this.times = new TimesField(byId('open-form'), byId('open-times'));
     byId('open-form').addEventListener('submit', (event) => {
@@ -30,6 +31,7 @@ export class TableView {
       this.submit();
     });
     byId('find').addEventListener('input', () => this.render());
+    document.addEventListener('visibilitychange', () => document.hidden || this.isStale && this.readNow());
   }
 
   open() {
@@ -102,7 +104,13 @@ export class TableView {
 
   readLater() {
     clearTimeout(this.reads);
-    this.reads = setTimeout(() => this.root.hidden || document.hidden || this.readLast(), KEPT_AFTER);
+    this.reads = setTimeout(() => this.readNow(), KEPT_AFTER);
+  }
+
+  /** Nobody reads them for who looks elsewhere, who has them as soon as they look. */
+  readNow() {
+    this.isStale = document.hidden;
+    if (!this.isStale && !this.root.hidden) this.readLast();
   }
 
   /** Of these games those that are not on the table. */
