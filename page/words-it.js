@@ -962,6 +962,7 @@ export const WORDS = {
   'Each position that can still come was looked at.': 'È stata esaminata ogni posizione che può ancora venire.',
   'Lines of the log: {0}; the last was put at {1}. Its sum, to be written down as a round ends:':
     'Righe del registro: {0}; l’ultima è stata scritta il {1}. La sua somma, da annotare alla fine di un turno:',
+  'The club’s machine says of the round’s files: {0}': 'La macchina del circolo dice dei file del turno: {0}',
   'The log is empty.': 'Il registro è vuoto.',
   'Line {0} of the log does not fit behind the line before it.':
     'La riga {0} del registro non si accorda con la riga precedente.',

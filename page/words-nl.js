@@ -964,6 +964,8 @@ export const WORDS = {
   'Each position that can still come was looked at.': 'Elke stelling die nog kan komen, is bekeken.',
   'Lines of the log: {0}; the last was put at {1}. Its sum, to be written down as a round ends:':
     'Regels van het logboek: {0}; de laatste kwam op {1}. De som ervan, te noteren aan het eind van een ronde:',
+  'The club’s machine says of the round’s files: {0}':
+    'De computer van de club zegt over de bestanden van de ronde: {0}',
   'The log is empty.': 'Het logboek is leeg.',
   'Line {0} of the log does not fit behind the line before it.':
     'Regel {0} van het logboek past niet achter de regel ervoor.',

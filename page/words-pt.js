@@ -950,6 +950,7 @@ export const WORDS = {
   'Each position that can still come was looked at.': 'Foi vista cada posição que ainda pode surgir.',
   'Lines of the log: {0}; the last was put at {1}. Its sum, to be written down as a round ends:':
     'Linhas do registro: {0}; a última foi escrita em {1}. A soma dela, para anotar ao fim de uma rodada:',
+  'The club’s machine says of the round’s files: {0}': 'A máquina do clube diz dos arquivos da rodada: {0}',
   'The log is empty.': 'O registro está vazio.',
   'Line {0} of the log does not fit behind the line before it.':
     'A linha {0} do registro não se ajusta à linha anterior.',
