@@ -242,6 +242,7 @@ export const WORDS = {
   'has begun': 'hat begonnen',
   'goes on': 'geht weiter',
   '{0}: the clocks run. ': '{0}: die Uhren laufen. ',
+  '{0}: it is your turn. ': '{0}: du bist am Zug. ',
   'Go there': 'Hingehen',
   'The connection broke, and your game has not been opened so far. Look, and open it again.':
     'Die Verbindung ist abgerissen, und deine Partie ist bisher nicht eröffnet. Sieh nach und eröffne sie noch '

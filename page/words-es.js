@@ -238,6 +238,7 @@ export const WORDS = {
   'has begun': 'ha comenzado',
   'goes on': 'sigue',
   '{0}: the clocks run. ': '{0}: los relojes corren. ',
+  '{0}: it is your turn. ': '{0}: te toca jugar. ',
   'Go there': 'Ir allí',
   'The connection broke, and your game has not been opened so far. Look, and open it again.':
     'La conexión se cortó, y tu partida no se ha abierto hasta ahora. Mira y ábrela otra vez.',

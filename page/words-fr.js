@@ -245,6 +245,7 @@ export const WORDS = {
   'has begun': 'a commencé',
   'goes on': 'continue',
   '{0}: the clocks run. ': '{0} : les pendules tournent. ',
+  '{0}: it is your turn. ': '{0} : c’est à vous de jouer. ',
   'Go there': 'Y aller',
   'The connection broke, and your game has not been opened so far. Look, and open it again.':
     'La connexion s’est rompue, et votre partie n’est pas ouverte jusqu’ici. Regardez, puis ouvrez-la de nouveau.',

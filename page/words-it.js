@@ -241,6 +241,7 @@ export const WORDS = {
   'has begun': 'è cominciata',
   'goes on': 'continua',
   '{0}: the clocks run. ': '{0}: gli orologi corrono. ',
+  '{0}: it is your turn. ': '{0}: tocca a te. ',
   'Go there': 'Vai',
   'The connection broke, and your game has not been opened so far. Look, and open it again.':
     'La connessione si è interrotta, e finora la tua partita non è aperta. Guarda e aprila di nuovo.',

@@ -241,6 +241,7 @@ export const WORDS = {
   'has begun': 'is begonnen',
   'goes on': 'gaat door',
   '{0}: the clocks run. ': '{0}: de klokken lopen. ',
+  '{0}: it is your turn. ': '{0}: jij bent aan zet. ',
   'Go there': 'Erheen',
   'The connection broke, and your game has not been opened so far. Look, and open it again.':
     'De verbinding is verbroken, en je partij is nog niet geopend. Kijk en open de partij opnieuw.',

@@ -239,6 +239,7 @@ export const WORDS = {
   'has begun': 'rozpoczęła się',
   'goes on': 'trwa',
   '{0}: the clocks run. ': '{0}: zegary idą. ',
+  '{0}: it is your turn. ': '{0}: twoja kolej. ',
   'Go there': 'Przejdź',
   'The connection broke, and your game has not been opened so far. Look, and open it again.':
     'Połączenie zostało zerwane, a twoja partia jeszcze nie jest otwarta. Sprawdź i otwórz ją ponownie.',

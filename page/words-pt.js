@@ -237,6 +237,7 @@ export const WORDS = {
   'has begun': 'começou',
   'goes on': 'continua',
   '{0}: the clocks run. ': '{0}: os relógios correm. ',
+  '{0}: it is your turn. ': '{0}: é a sua vez. ',
   'Go there': 'Ir para lá',
   'The connection broke, and your game has not been opened so far. Look, and open it again.':
     'A conexão caiu, e sua partida ainda não foi aberta. Veja e abra de novo.',
