@@ -134,6 +134,7 @@ class Person:
             if '--user-data-dir=' + self.profile in words:
                 with contextlib.suppress(ProcessLookupError):
                     os.kill(int(pid), signal.SIGKILL)
+        self.close()
 
     # ---- looking
 
