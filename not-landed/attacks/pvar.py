@@ -1,0 +1,6 @@
+import subprocess,hashlib,os
+C=os.environ.get('CHESS_CLUB','/work/prog0/chess_club'); F=os.path.join(__import__('tempfile').mkdtemp(),'v'); s=lambda x: hashlib.sha256(x.encode()).hexdigest()
+ok='ann player %s Ann Lee\n'%s('a'); V={'crlf':ok.replace('\n','\r\n'),'bom':'\ufeff'+ok,'nul':ok[:-1]+'\0\n','two same':ok+ok,'same sum':ok+'bob player %s Bob\n'%s('a'),'upper sum':'ann player %s Ann\n'%s('a').upper(),'short sum':'ann player abc Ann\n','role':'ann Arbiter %s Ann\n'%s('a'),'no full':'ann player %s\n'%s('a'),'tab':'ann\tplayer %s Ann\n'%s('a'),'esc':'ann player %s A\x1b[2Jnn\n'%s('a'),'bidi':'ann player %s A\u202enn\n'%s('a'),'Ann':ok+'Ann player %s A\n'%s('b'),'no end':ok[:-1],'sum of abc':'ann player %s Ann\n'%s('abc'),'latin1':b'ann player '+s('a').encode()+b' \xe4nn\n','ls':'ann player %s A\u2028nn\n'%s('a'),'# line':'# x\n'+ok,'space':' '+ok,'long':'ann player %s %s\n'%(s('a'),'x'*101)}
+for k,v in V.items():
+    open(F,'wb').write(v if isinstance(v,bytes) else v.encode())
+    r=subprocess.run([C,'player','zed','--full-name','Zed Y','--players',F],capture_output=True,text=True,timeout=60); print(k,'->',r.returncode,(r.stderr or 'taken').strip().replace('\n','/')[-130:],flush=True)
