@@ -1,4 +1,4 @@
-use Rattle.std.proofs.Common.{refl, sym, subst, ◌∙◌, List, ℕ}
+use Rattle.std.proofs.Common.{refl, sym, subst, ◌∙◌}
 use Rattle.std.proofs.lemmas.Bool.{false≢true}
 use Rattle.server_words.specs.BoardLine.{IsVisibleText}
 use Rattle.server_words.proofs.BoardLineLemmas.{asked_text, stripped, coordinate-visible}
