@@ -63,8 +63,8 @@ fn diagonal_sliders(board: &Board) -> Bits
         .meet(theirs)
 }
 
-/// The opponent's pawns, knights and king that attack a square.
-pub fn leapers(board: &Board, square: Square) -> Bits
+// The opponent's pawns, knights and king that attack a square.
+fn leapers(board: &Board, square: Square) -> Bits
     ensures { IsSetOf result (IsLeaper board.now square) }
 {
     let _on_board = square.number();
