@@ -1,4 +1,4 @@
-ghost use Rattle.std.specs.Prelude.{◌≡◌, ◌≤◌, ◌+◌, [], ◌∷◌, ◌++◌, length, codes, decimal, IfOk, OnOk, OnErr};
+ghost use Rattle.std.specs.Prelude.{◌≡◌, ◌≤◌, ◌+◌, [], ◌∷◌, ◌++◌, length, codes, decimal, OnOk, OnErr};
 ghost use Rattle.arrayvec.specs.ArrayString.{array_string_len};
 ghost use Rattle.chess_entry.specs.State.{position_of, ply_of};
 ghost use Rattle.chess_entry.specs.Story.{stated};
@@ -93,22 +93,38 @@ fn push_made(text: &mut AnswerLine, before: &Board, mv: &Move, game: &Game)
     push_ending(text, game.ending());
 }
 
-/// Makes a move in a game, and gives the answer to it that `game_line` gives before it: the position after the move,
-/// and its ending, are found once. It fails where memory is refused, and then the game is as it was.
-pub fn play_answered(game: &mut Game, at: u64, mv: Move) -> Result<AnswerLine, AllocError>
+// Writes the answer to a move over what stands there, without the move: how many moves are made with it is the last.
+fn begin_move(said: &mut AnswerLine, game: &Game)
+    ensures bytes { said.new.bytes ≡
+        ok_text (codes "move") game.now.number [] ++ 32 ∷ decimal (ply_of game.now + 1) }
+    ensures len { array_string_len said.new ≤ 64 }
+{
+    said.clear();
+    said.push_str("ok move");
+    push_number_field(said, u64::from(game.number().get()));
+    push_number_field(said, u64::from(game.ply()) + 1);
+}
+
+/// Makes a move in a game, and writes the answer to it that `game_line` gives before it over what stands in `said`: the
+/// position after the move, and its ending, are found once. It fails where memory is refused, and then the game is as
+/// it was.
+pub fn play_answered(
+    game: &mut Game,
+    at: u64,
+    mv: Move,
+    said: &mut AnswerLine,
+) -> Result<(), AllocError>
     requires in_time { IsInTime game.old at }
     requires playable { IsPlayable game.old mv }
-    ensures told { IfOk result (λ line.
-        TellsMove game.old mv (ok_text (codes "move") game.old.number []) line.bytes) }
+    ensures told { OnOk result (TellsMove game.old mv (ok_text (codes "move") game.old.number []) said.new.bytes) }
     ensures made { OnOk result (game.new ≡ moved game.old at mv) }
     ensures refused { OnErr result (game.new ≡ game.old) }
 {
-    let mut text = told("move", game);
-    push_number_field(&mut text, u64::from(game.ply()) + 1);
+    begin_move(said, game);
     let before = *game.board();
     game.play(at, mv)?;
-    push_made(&mut text, &before, &mv, game);
-    Ok(text)
+    push_made(said, &before, &mv, game);
+    Ok(())
 }
 
 // The answer to a claim, for the position that stands or for the one that a stated move would bring.

@@ -22,3 +22,4 @@ pub mod ValidRights
 pub mod ValidTarget
 pub mod Ways
 pub mod MenAssign
+pub mod Carried

@@ -1,4 +1,4 @@
-ghost use Rattle.std.specs.Prelude.{◌≡◌, ◌<◌, ◌↔◌, IsTrue, IfOk, IfErr, IfSome, IfNone};
+ghost use Rattle.std.specs.Prelude.{◌≡◌, ◌<◌, ◌↔◌, IsTrue, None, IfOk, IfErr, IfSome, IfNone};
 ghost use Rattle.chess_board.specs.Position.{Position, IsValid, IsInCheck, man_at};
 ghost use Rattle.chess_board.specs.RightsOf.{rights_of, HasKnownFlags};
 ghost use Rattle.chess_board.specs.Legal.{IsCandidate, IsLegal};
@@ -6,6 +6,7 @@ ghost use Rattle.chess_board.specs.Initial.{initial};
 ghost use Rattle.chess_board.specs.Parts.{described, IsFirstBroken};
 ghost use Rattle.chess_board.specs.Next as after;
 ghost use Rattle.chess_bits.specs.Square.{IsOnBoard, is_square};
+ghost use Rattle.chess_bits.specs.Table.{put};
 ghost use Rattle.chess_bits.specs.Man.{holds};
 ghost use Rattle.chess_board.specs.Occupancy.{is_a as man_is_a};
 
@@ -185,16 +186,6 @@ impl Board {
             && is_same_square(to, castled_king(self.side, wing))
     }
 
-    // What stands on the square reached after the move.
-    fn became(&self, mv: &Move) -> Option<(Colour, Kind)>
-        ensures { result ≡ after.became self.now mv.now }
-    {
-        match mv.promotion {
-            None => self.men.man_at(mv.from),
-            Some(kind) => Some((self.side, kind)),
-        }
-    }
-
     // Takes the pawn away that the move takes en passant.
     fn take_passed_pawn(&self, mv: &Move, men: &mut Men)
         ensures { men.new ≡ after.without_taken self.now mv.now men.old }
@@ -203,6 +194,18 @@ impl Board {
             let from = mv.from;
             let to = mv.to;
             men.set(Square::at(to.file(), from.rank()), None);
+        }
+    }
+
+    // Moves the man, which a pawn's promotion replaces.
+    fn bring_man(&self, mv: &Move, men: &mut Men)
+        ensures brought { men.new ≡ put (put men.old mv.now.from None) mv.now.to
+            (after.became_of self.now.side mv.now.promotion (man_at men.old mv.now.from)) }
+        ensures on_board { IsOnBoard mv.now.from × IsOnBoard mv.now.to }
+    {
+        men.carry(mv.from, mv.to);
+        if let Some(kind) = mv.promotion {
+            men.set(mv.to, Some((self.side, kind)));
         }
     }
 
@@ -221,9 +224,8 @@ impl Board {
         ensures { result ≡ after.placement_after self.now mv.now }
     {
         let mut men = self.men;
-        men.set(mv.from, None);
         self.take_passed_pawn(mv, &mut men);
-        men.set(mv.to, self.became(mv));
+        self.bring_man(mv, &mut men);
         self.bring_rook(mv, Wing::King, &mut men);
         self.bring_rook(mv, Wing::Queen, &mut men);
         men

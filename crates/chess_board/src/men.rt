@@ -1,6 +1,7 @@
-ghost use Rattle.std.specs.Prelude.{◌≡◌, not, None, Some, replicate};
+ghost use Rattle.std.specs.Prelude.{◌≡◌, not, None, Some, false, replicate};
 ghost use Rattle.chess_bits.specs.declared.men.Kind.TheVariants.{King};
-ghost use Rattle.chess_bits.specs.Table.{put, union, without};
+ghost use Rattle.chess_bits.specs.Square.{IsOnBoard};
+ghost use Rattle.chess_bits.specs.Table.{has, put, union, without};
 ghost use Rattle.chess_bits.specs.Man.{holds, is_man as same_man, is_of as man_is_of};
 ghost use Rattle.chess_board.specs.Position.{man_at, occupied_of, count_of};
 ghost use Rattle.chess_board.specs.Occupancy.{squares_with, is_a as man_is_a, there_if, AreChanges};
@@ -114,6 +115,23 @@ impl Men {
         }
     }
 
+    // Puts what stands on a square onto another, in place of what stood there, without a look at what it is.
+    pub(crate) fn carry(&mut self, from: Square, to: Square)
+        ensures carried { self.new ≡ put (put self.old from None) to (man_at self.old from) }
+        ensures on_board { IsOnBoard from × IsOnBoard to }
+    {
+        let _from_on_board = from.number();
+        let _to_on_board = to.number();
+        self.white = carried(self.white, from, to);
+        self.black = carried(self.black, from, to);
+        self.pawns = carried(self.pawns, from, to);
+        self.knights = carried(self.knights, from, to);
+        self.bishops = carried(self.bishops, from, to);
+        self.rooks = carried(self.rooks, from, to);
+        self.queens = carried(self.queens, from, to);
+        self.kings = carried(self.kings, from, to);
+    }
+
     /// The squares with men of a colour.
     pub fn of(&self, colour: Colour) -> Bits
         ensures { result ≡ squares_with (man_is_of colour) self.now }
@@ -224,4 +242,14 @@ pub fn is_man(man: Option<(Colour, Kind)>, colour: Colour, kind: Kind) -> bool
         None => false,
         Some((own_colour, own_kind)) => own_colour == colour && own_kind == kind,
     }
+}
+
+// The set with what it has of a square put onto another.
+fn carried(set: Bits, from: Square, to: Square) -> Bits
+    ensures { result ≡ put (put set from false) to (has set from) }
+{
+    let mut carried = set;
+    carried.remove(from);
+    carried.assign(to, set.contains(from));
+    carried
 }

@@ -229,7 +229,7 @@ masks_exact p k from to kind valid king on own apart not_there no_pawn =
 -- ---- the king
 
 -- an attack is the same over squares that differ on the square attacked alone
-alike : (a_squares b_squares : List Bool) (side : Colour) (kind : Kind) (a b : Square) → IsOnBoard a → IsOnBoard b →
+pub alike : (a_squares b_squares : List Bool) (side : Colour) (kind : Kind) (a b : Square) → IsOnBoard a → IsOnBoard b →
     ((q : Square) → q ≢ b → has a_squares q ≡ false → has b_squares q ≡ false) → Attacks a_squares side kind a b →
     Attacks b_squares side kind a b
 alike a_squares b_squares side kind a b on_a on_b same attack = elim (attack_parts a_squares side kind a b attack) [
@@ -304,7 +304,7 @@ gone_king p k to valid on own near =
     }
 
 -- the squares with men once the king is taken off
-has-without_king : (p : Position) (k q : Square) → IsValid p → IsOnBoard k →
+pub has-without_king : (p : Position) (k q : Square) → IsValid p → IsOnBoard k →
     has (put (occupied_of p.placement) k false) q ≡ cond (is_square q k) false (has (occupied_of p.placement) q)
 has-without_king p k q valid on =
     at-put false (occupied_of p.placement) k q false (length-map p.placement is_some ∙ valid.whole) on

@@ -18,4 +18,6 @@ pub mod Counted
 pub mod LastSquares
 pub mod FreeMen
 pub mod Tallied
-pub mod Open
+pub mod Gathered
+pub mod Attacked
+pub mod Castled

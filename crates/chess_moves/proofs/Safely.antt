@@ -1,125 +1,30 @@
 -- The sets of squares to which a man may go.
-use Rattle.std.specs.Prelude.{ℕ, ◌≡◌, ◌≢◌, ◌⊎◌, ◌↔◌, ◌%◌, Bool, true, false, cond, not, List, [], ◌∷◌, length, Option, Some, None, IsTrue}
+use Rattle.std.specs.Prelude.{◌≡◌, ◌≢◌, ◌↔◌, Bool, true, false, cond, not, List, [], Option, Some, None}
 use Rattle.std.proofs.Common.{refl, sym, ap, subst, ◌∙◌, inl, inr}
-use Rattle.std.proofs.lemmas.Bool.{false≢true, both_ways, cases_Bool, not-true, not_from_false, false_from_ne_true}
+use Rattle.std.proofs.lemmas.Bool.{false≢true, cases_Bool, false_from_ne_true}
 use Rattle.chess_bits.specs.declared.men.Kind.{Kind}
 use Rattle.chess_bits.specs.declared.men.Kind.TheVariants.{Pawn, Knight, Bishop, Rook, Queen, King}
 use Rattle.chess_bits.specs.Square.{Square, IsOnBoard, is_square}
-use Rattle.chess_bits.specs.Man.{other, is_kind}
-use Rattle.chess_bits.specs.Table.{has, put, union, meet, members, IsSetOf}
-use Rattle.chess_bits.specs.Attack.{SomeOf, Slides, SlidesAlong, straight, diagonal}
-use Rattle.chess_bits.proofs.TableLemmas.{at-put, length-put, is_square-true, is_square-other, is_square-false, on_board-from_at}
+use Rattle.chess_bits.specs.Man.{is_kind}
+use Rattle.chess_bits.specs.Table.{has, put, meet, members, IsSetOf}
+use Rattle.chess_bits.proofs.TableLemmas.{at-put, length-put, is_square-true, is_square-false, on_board-from_at}
 use Rattle.chess_bits.proofs.ManLemmas.{none_is_no_man, not_of_both}
-use Rattle.chess_bits.proofs.AlongLemmas.{SomeOf-members}
-use Rattle.chess_bits.proofs.SetLemmas.{has-none, IsSetOf-union, IsSetOf-like}
-use Rattle.chess_board.specs.Position.{Position, man_at, occupied_of, IsValid}
+use Rattle.chess_bits.proofs.SetLemmas.{IsSetOf-like}
+use Rattle.chess_board.specs.Position.{Position, man_at, IsValid}
 use Rattle.chess_board.specs.Next.{is_target, is_en_passant}
-use Rattle.chess_board.proofs.Candidates.{IsOnBoard-from_man, no_en_passant, no_target_is_plain, is_target-true}
+use Rattle.chess_board.proofs.Candidates.{no_en_passant, no_target_is_plain, is_target-true}
 use Rattle.chess_board.proofs.Outward.{not_empty}
 use Rattle.chess_moves.specs.declared.masks.Masks.{Masks}
 use Rattle.chess_moves.specs.Targets.{plain, GoesTo, LeavesKingSafe, GoesSafely, IsPiece}
-use Rattle.chess_moves.specs.Masks.{SlidesIn, IsSlider, IsLeaper, EndsChecks, KeepsLine, IsAttackedWithout, HoldsMasks}
-use Rattle.chess_moves.proofs.Ways.{odd_or_even, straight_way, diagonal_way, way_straight, way_diagonal, attack_leap, attack_seen, seen_attack}
+use Rattle.chess_moves.specs.Masks.{EndsChecks, KeepsLine, HoldsMasks}
 use Rattle.chess_moves.proofs.SetForms.{both_set, target_there}
 use Rattle.chess_moves.proofs.Exact.{masks_exact}
-
--- ---- attacks once the king is taken off
 
 -- a set that is not empty has a square of the board
 pub some_square : (set : List Bool) → ¬ (members set ≡ []) → (s : Square) × IsOnBoard s × (has set s ≡ true)
 some_square set some =
     let found = not_empty set some in
     (found.0, on_board-from_at false set found.0 (λ none. false≢true (sym none ∙ found.1)), found.1)
-
--- a kind slides alike in two ways of which both are straight or both diagonal
-slides_alike : (kind : Kind) (a b : ℕ) → a % 2 ≡ b % 2 → SlidesIn kind a → SlidesIn kind b
-slides_alike Pawn a b same slides = absurd slides
-slides_alike Knight a b same slides = absurd slides
-slides_alike King a b same slides = absurd slides
-slides_alike Bishop a b same slides = sym same ∙ slides
-slides_alike Rook a b same slides = sym same ∙ slides
-slides_alike Queen a b same slides = tt
-
--- a man of the opponent that attacks q over the squares, as q sees it
-abbrev pub IsSeenAttacker : Position → List Bool → Square → Square → Type 0
-IsSeenAttacker p squares q c =
-    IsLeaper p q c ⊎ ((Slides squares straight q c × IsSlider p 0 c) ⊎ (Slides squares diagonal q c × IsSlider p 1 c))
-
--- men of one set that are in another one too, by what the other's men are
-like_set : (set men : List Bool) (P Q : Square → Type 0) → IsSetOf set (λ c. P c × (has men c ≡ true)) →
-    IsSetOf men Q → IsSetOf set (λ c. P c × Q c)
-like_set set men P Q of of_men =
-    IsSetOf-like set (λ c. P c × (has men c ≡ true)) (λ c. P c × Q c) of
-    (λ c on is. (is.0, (of_men.exact c on).0 is.1)) (λ c on is. (is.0, (of_men.exact c on).1 is.1))
-
-pub seen_set : (p : Position) (q : Square) (squares leapers rooks bishops straights diagonals : List Bool) →
-    IsSetOf leapers (IsLeaper p q) → IsSetOf rooks (λ c. Slides squares straight q c × (has straights c ≡ true)) →
-    IsSetOf bishops (λ c. Slides squares diagonal q c × (has diagonals c ≡ true)) →
-    IsSetOf straights (IsSlider p 0) → IsSetOf diagonals (IsSlider p 1) →
-    IsSetOf (union leapers (union rooks bishops)) (IsSeenAttacker p squares q)
-seen_set p q squares leapers rooks bishops straights diagonals of_leapers of_rooks of_bishops of_straights of_diagonals =
-    IsSetOf-union leapers (union rooks bishops) (IsLeaper p q)
-    (λ c. (Slides squares straight q c × IsSlider p 0 c) ⊎ (Slides squares diagonal q c × IsSlider p 1 c)) of_leapers
-    (IsSetOf-union rooks bishops (λ c. Slides squares straight q c × IsSlider p 0 c)
-    (λ c. Slides squares diagonal q c × IsSlider p 1 c)
-    (like_set rooks straights (Slides squares straight q) (IsSlider p 0) of_rooks of_straights)
-    (like_set bishops diagonals (Slides squares diagonal q) (IsSlider p 1) of_bishops of_diagonals))
-
-attacked_from : (p : Position) (k q c : Square) → IsOnBoard c →
-    IsSeenAttacker p (put (occupied_of p.placement) k false) q c → IsAttackedWithout p k q
-attacked_from p k q c on (inl leaper) = (
-  c,
-  leaper.0,
-  leaper.1,
-  attack_leap (put (occupied_of p.placement) k false) (other p.side) leaper.0 c q leaper.2,
-)
-attacked_from p k q c on (inr (inl both)) =
-    let squares : List Bool = put (occupied_of p.placement) k false in
-    let w = straight_way (SlidesAlong squares q c) both.0 in (
-      c,
-      both.1.0,
-      both.1.1,
-      seen_attack squares (other p.side) both.1.0 c q w.0 on w.1 (slides_alike both.1.0 0 w.0 (sym w.2) both.1.2) w.3,
-    )
-attacked_from p k q c on (inr (inr both)) =
-    let squares : List Bool = put (occupied_of p.placement) k false in
-    let w = diagonal_way (SlidesAlong squares q c) both.0 in (
-      c,
-      both.1.0,
-      both.1.1,
-      seen_attack squares (other p.side) both.1.0 c q w.0 on w.1 (slides_alike both.1.0 1 w.0 (sym w.2) both.1.2) w.3,
-    )
-
-attacker_seen : (p : Position) (k q : Square) → IsOnBoard q → (attacked : IsAttackedWithout p k q) →
-    IsSeenAttacker p (put (occupied_of p.placement) k false) q attacked.0
-attacker_seen p k q on (c, kind, stands, attack) =
-    let squares : List Bool = put (occupied_of p.placement) k false in
-    elim (attack_seen squares (other p.side) kind c q on attack) [
-      | inl leap ↦ inl (kind, stands, leap)
-      | inr by ↦ elim (odd_or_even by.way) [
-        | inl even ↦ inr (inl (
-          way_straight (SlidesAlong squares q c) by.way by.below even by.slide,
-          (kind, stands, slides_alike kind by.way 0 even by.slides_in),
-        ))
-        | inr odd ↦ inr (inr (
-          way_diagonal (SlidesAlong squares q c) by.way by.below odd by.slide,
-          (kind, stands, slides_alike kind by.way 1 odd by.slides_in),
-        ))
-      ]
-    ]
-
-pub attacked_told : (p : Position) (k q : Square) (attackers : List Bool) (none : Bool) → IsOnBoard q →
-    IsSetOf attackers (IsSeenAttacker p (put (occupied_of p.placement) k false) q) →
-    (IsTrue none ↔ (members attackers ≡ [])) → IsTrue (not none) ↔ IsAttackedWithout p k q
-attacked_told p k q attackers none on of told = (
-  λ some.
-      let found = some_square attackers (λ empty. both_ways none (not-true none some) (told.1 empty)) in
-      attacked_from p k q found.0 found.1 ((of.exact found.0 found.1).0 found.2),
-  λ attacked. not_from_false none (false_from_ne_true none (λ empty.
-      let on_c = IsOnBoard-from_man p.placement attacked.0 (other p.side, attacked.1) attacked.2 in
-      false≢true (sym (has-none attackers attacked.0 on_c (told.0 empty))
-      ∙ (of.exact attacked.0 on_c).1 (attacker_seen p k q on attacked)))),
-)
 
 -- ---- men that are not the king
 
@@ -278,96 +183,6 @@ pawn_set_target p masks from t reached allowed b holds own of_reached of_allowed
               (λ safely. at ∙ tell.1 safely),
             )
       ];
-    }
-
--- ---- the king: squares are taken away one by one
-
--- what is left of a set, while some of its squares are still to be judged
-pub record KeepsSafe (Goes Safe : Square → Type 0) (set : List Bool) (left : List Square) : Type 0 where
-  pub whole : length set ≡ 64
-  pub within : (q : Square) → IsOnBoard q → has set q ≡ true → Goes q × (SomeOf (λ s. q ≡ s) left ⊎ Safe q)
-  pub kept : (q : Square) → IsOnBoard q → Goes q → Safe q → has set q ≡ true
-
-pub keeps_start : (Goes Safe : Square → Type 0) (set : List Bool) (left : List Square) → IsSetOf set Goes →
-    left ≡ members set → KeepsSafe Goes Safe set left
-keeps_start Goes Safe set left of e =
-    let Start' : List Square → Type 0 = KeepsSafe Goes Safe set in
-    subst Start' (sym e) (record {
-      whole = of.whole;
-      within = λ q on here. ((of.exact q on).0 here, inl (SomeOf-members (λ s. q ≡ s) set q on here refl));
-      kept = λ q on goes safe. (of.exact q on).1 goes;
-    })
-
-pub keeps_safe : (Goes Safe : Square → Type 0) (set : List Bool) (to : Square) (rest left : List Square) →
-    KeepsSafe Goes Safe set left → left ≡ to ∷ rest → Safe to → KeepsSafe Goes Safe set rest
-keeps_safe Goes Safe set to rest left keeps e safe =
-    let Some' : Square → List Square → Type 0 = λ q ss. SomeOf (λ s. q ≡ s) ss in
-    record {
-      whole = keeps.whole;
-      within = λ q on here.
-          let both = keeps.within q on here in (
-            both.0,
-            elim (both.1) [
-              | inr done ↦ inr done
-              | inl some ↦ now q (subst (Some' q) e some)
-            ],
-          );
-      kept = keeps.kept;
-    }
-  where
-    now : (q : Square) → SomeOf (λ s. q ≡ s) (to ∷ rest) → SomeOf (λ s. q ≡ s) rest ⊎ Safe q
-    now q (inl same) = let Safe' : Square → Type 0 = Safe in inr (subst Safe' (sym same) safe)
-    now q (inr later) = inl later
-
-pub keeps_exposed : (Goes Safe : Square → Type 0) (set : List Bool) (to : Square) (rest left : List Square) →
-    KeepsSafe Goes Safe set left → left ≡ to ∷ rest → IsOnBoard to → ¬ Safe to →
-    KeepsSafe Goes Safe (put set to false) rest
-keeps_exposed Goes Safe set to rest left keeps e on_to exposed =
-    let Some' : Square → List Square → Type 0 = λ q ss. SomeOf (λ s. q ≡ s) ss in
-    let Safe' : Square → Type 0 = Safe in
-    let told = λ (q : Square). at-put false set to q false keeps.whole on_to in
-    record {
-      whole = length-put set to false ∙ keeps.whole;
-      within = λ q on here. elim (cases_Bool (is_square q to)) [
-        | inl same ↦ absurd (false≢true
-            (sym (told q ∙ ap (λ (x : Bool). cond x false (has set q)) same) ∙ here))
-        | inr apart ↦
-            let there : has set q ≡ true =
-            sym (told q ∙ ap (λ (x : Bool). cond x false (has set q)) apart) ∙ here in
-            let both = keeps.within q on there in (
-              both.0,
-              elim (both.1) [
-                | inr done ↦ inr done
-                | inl some ↦ inl (later q (is_square-false q to apart) (subst (Some' q) e some))
-              ],
-            )
-      ];
-      kept = λ q on goes safe.
-          told q ∙ ap (λ (x : Bool). cond x false (has set q))
-          (is_square-other q to (λ same. exposed (subst Safe' same safe))) ∙ keeps.kept q on goes safe;
-    }
-  where
-    later : (q : Square) → q ≢ to → SomeOf (λ s. q ≡ s) (to ∷ rest) → SomeOf (λ s. q ≡ s) rest
-    later q apart (inl same) = absurd (apart same)
-    later q apart (inr some) = some
-
-pub keeps_end : (Goes Safe : Square → Type 0) (set : List Bool) (left : List Square) → KeepsSafe Goes Safe set left →
-    left ≡ [] → IsSetOf set (λ q. Goes q × Safe q)
-keeps_end Goes Safe set left keeps e =
-    let Some' : Square → List Square → Type 0 = λ q ss. SomeOf (λ s. q ≡ s) ss in
-    record {
-      whole = keeps.whole;
-      exact = λ q on. (
-        (λ here.
-            let both = keeps.within q on here in (
-              both.0,
-              elim (both.1) [
-                | inr done ↦ done
-                | inl some ↦ absurd (subst (Some' q) e some)
-              ],
-            )),
-        (λ both. keeps.kept q on both.0 both.1),
-      );
     }
 
 -- ---- answers turned round

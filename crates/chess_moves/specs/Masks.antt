@@ -89,6 +89,15 @@ IsAttackedWithout p k q =
     (a : Square) × (kind : Kind) × (man_at p.placement a ≡ Some (other p.side, kind)) ×
     Attacks (put (occupied_of p.placement) k false) (other p.side) kind a q
 
+-- a man of the opponent attacks the square, whatever stands between
+abbrev pub IsLeapt : Position → Square → Type 0
+IsLeapt p q =
+    (c : Square) × (kind : Kind) × (man_at p.placement c ≡ Some (other p.side, kind)) × Leaps (other p.side) kind c q
+
+-- one of the men of a set hits q, each as it does
+abbrev pub IsHit : List Bool → (Square → Square → Type 0) → Square → Type 0
+IsHit men Hits q = (a : Square) × IsOnBoard a × (has men a ≡ true) × Hits a q
+
 -- ---- what the code keeps
 
 -- The squares in a direction from k as far as the first of some sliders, and with it.

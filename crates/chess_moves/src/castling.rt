@@ -1,11 +1,15 @@
-ghost use Rattle.std.specs.Prelude.{◌≡◌, ◌↔◌, IsTrue, None, [], ◌∷◌};
+ghost use Rattle.std.specs.Prelude.{◌≡◌, ◌↔◌, IsTrue, None, Some, false, [], ◌∷◌};
+ghost use Rattle.chess_bits.specs.declared.men.Kind.TheVariants as kinds;
 ghost use Rattle.chess_bits.specs.Man.{other};
+ghost use Rattle.chess_bits.specs.Table.{has, IsSetOf};
 ghost use Rattle.chess_board.specs.Position as position;
 ghost use Rattle.chess_board.specs.Next as after;
 ghost use Rattle.chess_board.specs.Legal.{Castles, EachOf, between};
+ghost use Rattle.chess_moves.specs.Targets.{plain};
+ghost use Rattle.chess_moves.specs.Masks.{IsAttackedWithout};
 
-use crate::squares::is_empty;
-use chess_bits::Square;
+use crate::squares::{is_empty, only};
+use chess_bits::{Bits, Square};
 use chess_board::{
     Board, Move, Wing, castled_king, castled_rook, home_rank, is_attacked, is_same_square,
     king_home,
@@ -86,4 +90,43 @@ pub fn castles(board: &Board, mv: &Move, wing: Wing) -> bool
         && has_right(board, wing)
         && is_way_empty(board, wing)
         && is_way_safe(board, wing)
+}
+
+// Whether a set has none of the squares that the king leaves, crosses and reaches.
+fn is_way_off(board: &Board, king: Square, wing: Wing, set: Bits) -> bool
+    ensures { IsTrue result ↔
+        ((has set king ≡ false)
+        × (has set (after.castled_rook board.now.side wing) ≡ false)
+        × (has set (after.castled_king board.now.side wing) ≡ false)) }
+{
+    let side = board.side();
+    !set.contains(king)
+        && !set.contains(castled_rook(side, wing))
+        && !set.contains(castled_king(side, wing))
+}
+
+// Whether the king castles to the wing, by the squares that the opponent's men attack once it is taken off its own: who
+// attacks a square of its way through it attacks it too.
+fn may_castle(board: &Board, king: Square, wing: Wing, attacked: Bits) -> bool
+    requires valid { position.IsValid board.now }
+    requires own { position.man_at board.now.placement king ≡ Some (board.now.side, kinds.King) }
+    requires attacked { IsSetOf attacked (IsAttackedWithout board.now king) }
+    ensures { IsTrue result ↔ Castles board.now (plain king (after.castled_king board.now.side wing)) wing }
+{
+    if !has_right(board, wing) {
+        return false;
+    }
+    is_way_empty(board, wing) && is_way_off(board, king, wing, attacked)
+}
+
+/// The square that the king reaches by castling to the wing, if it may, by the squares that the opponent's men attack
+/// once it is taken off its own.
+pub fn castled_to(board: &Board, king: Square, wing: Wing, attacked: Bits) -> Bits
+    requires valid { position.IsValid board.now }
+    requires own { position.man_at board.now.placement king ≡ Some (board.now.side, kinds.King) }
+    requires attacked { IsSetOf attacked (IsAttackedWithout board.now king) }
+    ensures { IsSetOf result (λ to. Castles board.now (plain king to) wing) }
+{
+    let to = castled_king(board.side(), wing);
+    only(to, may_castle(board, king, wing, attacked))
 }

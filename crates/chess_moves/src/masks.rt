@@ -2,7 +2,7 @@
 ghost use Rattle.std.specs.Prelude.{ℕ, ◌≡◌, ◌+◌, ◌%◌, ◌<◌, ◌↔◌, IsTrue, Some};
 ghost use Rattle.chess_bits.specs.declared.men.Kind.TheVariants as kinds;
 ghost use Rattle.chess_bits.specs.Square.{Square as Geometric, IsOnBoard};
-ghost use Rattle.chess_bits.specs.Table.{meet, union, IsSetOf};
+ghost use Rattle.chess_bits.specs.Table.{meet, IsSetOf};
 ghost use Rattle.chess_board.specs.Position.{man_at, IsValid};
 ghost use Rattle.chess_board.specs.Legal.{HoldsColour};
 ghost use Rattle.chess_moves.specs.Masks.{IsSlider, IsLeaper, EndsChecks, KeepsBelow, KeepsLine, HoldsMasksBelow};
@@ -63,8 +63,8 @@ fn diagonal_sliders(board: &Board) -> Bits
         .meet(theirs)
 }
 
-/// The opponent's pawns, knights and king that attack a square.
-pub fn leapers(board: &Board, square: Square) -> Bits
+// The opponent's pawns, knights and king that attack a square.
+fn leapers(board: &Board, square: Square) -> Bits
     ensures { IsSetOf result (IsLeaper board.now square) }
 {
     let _on_board = square.number();
@@ -114,43 +114,19 @@ fn sliders_in(masks: &Masks, way: u8) -> Bits
     }
 }
 
-// The masks with a check more, by a slider at the end of the path: what ends it has to end those before too.
-fn with_check(masks: Masks, path: Bits) -> Masks
-    ensures { result ≡ record masks { ends = meet masks.ends path } }
-{
-    Masks {
-        ends: masks.ends.meet(path),
-        ..masks
-    }
-}
-
-// The masks with more pinned men.
-fn with_pinned(masks: Masks, men: Bits) -> Masks
-    ensures { result ≡ record masks { pinned = union masks.pinned men } }
-{
-    Masks {
-        pinned: masks.pinned.union(men),
-        ..masks
-    }
-}
-
-// The masks once the way is watched: a slider that nothing stands before gives check, and pins the one man before it,
-// if that is an own one.
-fn watched(board: &Board, masks: Masks, way: u8) -> Masks
+// Watches the way: a slider that nothing stands before gives check, and pins the one man before it, if that is an own
+// one. (The masks are changed where they lie: handed on, they would be copied in each way.)
+fn watch(board: &Board, masks: &mut Masks, way: u8)
     requires way { way < 8 }
-    requires masks { HoldsMasksBelow board.now way masks }
-    ensures { HoldsMasksBelow board.now (way + 1) result }
+    requires masks { HoldsMasksBelow board.now way masks.old }
+    ensures { HoldsMasksBelow board.now (way + 1) masks.new }
 {
-    match watch_in(board, masks.king, way, sliders_in(&masks, way)) {
-        None => masks,
-        Some(seen) => {
-            if seen.between.is_empty() {
-                with_check(masks, seen.path)
-            } else if is_single(seen.between) {
-                with_pinned(masks, seen.between.meet(men_of(board, board.side())))
-            } else {
-                masks
-            }
+    if let Some(seen) = watch_in(board, masks.king, way, sliders_in(masks, way)) {
+        if seen.between.is_empty() {
+            masks.ends = masks.ends.meet(seen.path);
+        } else if is_single(seen.between) {
+            let men = men_of(board, board.side());
+            masks.pinned = masks.pinned.union(seen.between.meet(men));
         }
     }
 }
@@ -161,7 +137,7 @@ pub fn masks_of(board: &Board) -> Masks
 {
     let mut masks = unwatched(board);
     for way in 0..8 {
-        masks = watched(board, masks, way);
+        watch(board, &mut masks, way);
     }
     masks
 }

@@ -1,70 +1,20 @@
 //! Where a man may go so that its king is safe.
-ghost use Rattle.std.specs.Prelude.{◌≡◌, ◌↔◌, IsTrue, Some, true, false, not, length};
+ghost use Rattle.std.specs.Prelude.{◌≡◌, ◌↔◌, IsTrue, Some, not};
 ghost use Rattle.chess_bits.specs.declared.men.Kind.TheVariants as kinds;
-ghost use Rattle.chess_bits.specs.Table.{has, put, IsSetOf};
-ghost use Rattle.chess_bits.specs.Attack.{Slides, straight as rook_steps, diagonal as bishop_steps};
-ghost use Rattle.chess_board.specs.Position.{man_at, occupied_of, IsInCheck};
+ghost use Rattle.chess_bits.specs.Table.{put, IsSetOf};
+ghost use Rattle.chess_board.specs.Position.{man_at, IsInCheck};
 ghost use Rattle.chess_board.specs.Next.{placement_after};
-ghost use Rattle.chess_moves.specs.Targets.{plain as plain_move, GoesTo, LeavesKingSafe, GoesSafely, IsPiece};
-ghost use Rattle.chess_moves.specs.Masks.{IsAttackedWithout, HoldsMasks};
+ghost use Rattle.chess_moves.specs.Targets.{plain as plain_move, GoesSafely, IsPiece};
+ghost use Rattle.chess_moves.specs.Masks.{HoldsMasks};
 
-use crate::masks::{Masks, allowed, leapers};
-use crate::squares::plain;
+use crate::castling::castled_to;
+use crate::hits::attacked_without;
+use crate::masks::{Masks, allowed};
+use crate::squares::{men_of, plain};
 use crate::targets::targets;
-use chess_attacks::{bishop, king, ray, rook};
+use chess_attacks::king;
 use chess_bits::{Bits, Kind, Square};
-use chess_board::Board;
-
-// The squares with men once that of a square is taken off.
-fn occupied_without(board: &Board, square: Square) -> Bits
-    ensures { result ≡ put (occupied_of board.now.placement) square false }
-{
-    let mut occupied = board.men().occupied();
-    occupied.remove(square);
-    occupied
-}
-
-// The men of a set to which a rook slides from the square. Most often none is on its lines, which is soon seen.
-fn rook_meets(square: Square, occupied: Bits, men: Bits) -> Bits
-    requires { length men ≡ 64 }
-    ensures { IsSetOf result (λ c. Slides occupied rook_steps square c × (has men c ≡ true)) }
-{
-    let file = ray(square, 0).union(ray(square, 4));
-    let rank = ray(square, 2).union(ray(square, 6));
-    if file.union(rank).meet(men).is_empty() {
-        Bits::new()
-    } else {
-        rook(square, occupied).meet(men)
-    }
-}
-
-// Those to which a bishop slides.
-fn bishop_meets(square: Square, occupied: Bits, men: Bits) -> Bits
-    requires { length men ≡ 64 }
-    ensures { IsSetOf result (λ c. Slides occupied bishop_steps square c × (has men c ≡ true)) }
-{
-    let rising = ray(square, 1).union(ray(square, 5));
-    let falling = ray(square, 3).union(ray(square, 7));
-    if rising.union(falling).meet(men).is_empty() {
-        Bits::new()
-    } else {
-        bishop(square, occupied).meet(men)
-    }
-}
-
-// Whether a man of the opponent attacks the square once the king is taken off its own.
-fn is_attacked_without(board: &Board, masks: &Masks, from: Square, to: Square) -> bool
-    requires { HoldsMasks board.now masks.now }
-    ensures { IsTrue result ↔ IsAttackedWithout board.now from to }
-{
-    let _on_board = to.number();
-    let occupied = occupied_without(board, from);
-    let straight = rook_meets(to, occupied, masks.straight);
-    let diagonal = bishop_meets(to, occupied, masks.diagonal);
-    !leapers(board, to)
-        .union(straight.union(diagonal))
-        .is_empty()
-}
+use chess_board::{Board, Wing};
 
 // Whether the king stands attacked once the men stand as the move leaves them.
 fn exposes(board: &Board, from: Square, to: Square) -> bool
@@ -73,32 +23,25 @@ fn exposes(board: &Board, from: Square, to: Square) -> bool
     board.exposes_king(plain(from, to))
 }
 
-// Whether the king is safe once it has gone to the square: in castling, which moves the rook too, the men are placed.
-fn is_king_safe(board: &Board, masks: &Masks, from: Square, to: Square) -> bool
-    requires own { man_at board.now.placement from ≡ Some (board.now.side, kinds.King) }
-    requires masks { HoldsMasks board.now masks.now }
-    ensures { IsTrue result ↔ LeavesKingSafe board.now from to }
-{
-    if king(from).contains(to) {
-        !is_attacked_without(board, masks, from, to)
-    } else {
-        !exposes(board, from, to)
-    }
-}
-
-// Where the king may go.
+// Where the king may go: to no square that the opponent's men attack once it is taken off its own. Where it has no step
+// it does not castle either, since it would cross one.
 fn king_goes(board: &Board, masks: &Masks, from: Square) -> Bits
     requires own { man_at board.now.placement from ≡ Some (board.now.side, kinds.King) }
     requires masks { HoldsMasks board.now masks.now }
     ensures { IsSetOf result (GoesSafely board.now kinds.King from) }
 {
-    let mut safe = targets(board, from, Kind::King);
-    for to in safe.iter() {
-        if !is_king_safe(board, masks, from, to) {
-            safe.remove(to);
-        }
+    let reached = king(from).without(men_of(board, board.side()));
+    if reached.is_empty() {
+        return reached;
     }
-    safe
+    let attacked = attacked_without(board, masks, from);
+    let castled = castled_to(board, from, Wing::King, attacked).union(castled_to(
+        board,
+        from,
+        Wing::Queen,
+        attacked,
+    ));
+    reached.without(attacked).union(castled)
 }
 
 // The squares, and the target of a capture en passant where the king is not exposed by it, whatever the masks say of

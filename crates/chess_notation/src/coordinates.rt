@@ -53,11 +53,11 @@ fn move_named(from: [u8; 2], to: [u8; 2], promotion: Option<Kind>) -> Option<Mov
 /// The move that a coordinate text as `e2e4`, `e1g1` (castling) or `e7e8q` names: two squares by PGN Standard, section
 /// 8.2.3.1, and for a promotion one of the letters of section 8.2.3.2, small. `None` for any other text. The move
 /// need not be legal.
-pub fn coordinate(text: &str) -> Option<Move>
+pub fn coordinate(text: &[u8]) -> Option<Move>
     ensures found { IfSome result (λ m. IsCoordinateOf text.now m) }
     ensures none { IfNone result ((m : Move) → ¬ IsCoordinateOf text.now m) }
 {
-    match text.as_bytes() {
+    match text {
         &[from_file, from_rank, to_file, to_rank] => move_named(
             [from_file, from_rank],
             [to_file, to_rank],

@@ -70,7 +70,7 @@ fn by_coordinates(board: &Board, text: &str) -> Option<Move>
     ensures found { IfSome result (Names board.now text.now) }
     ensures none { IfNone result ((m : Move) → IsLegal board.now m → ¬ IsCoordinateOf text.now m) }
 {
-    let mv = coordinate(text)?;
+    let mv = coordinate(text.as_bytes())?;
     if is_legal(board, &mv) { Some(mv) } else { None }
 }
 

@@ -9,7 +9,6 @@ use arrayvec::ArrayString;
 use chess_board::{Board, Move};
 use chess_fen::ShownBoard;
 use chess_moves::{after_legal, legal};
-use chess_notation::coordinate;
 
 /// Room for an answer, without its line feed. The longest is a FEN, which has at most 93 bytes.
 pub type AnswerLine = ArrayString<160>;
@@ -21,19 +20,9 @@ pub fn answer(board: &mut ShownBoard, line: &[u8], said: &mut AnswerLine)
     ensures { IsAnswer board.old line.now (as_line said.new.bytes) board.new }
 {
     match parse(line) {
-        BoardCommand::Move(text) => answer_move(board, text, said),
+        BoardCommand::Move(mv) => answer_coordinate(board, &mv, said),
+        BoardCommand::NoMove => refuse(said),
         BoardCommand::Bad => say(said, "no 1 BadLine"),
-    }
-}
-
-// Answers a line that asks for the move of this text.
-fn answer_move(board: &mut ShownBoard, text: &str, said: &mut AnswerLine)
-    requires { said.old.bytes ≡ [] }
-    ensures { AnswersText board.old text.now (as_line said.new.bytes) board.new }
-{
-    match coordinate(text) {
-        Some(mv) => answer_coordinate(board, &mv, said),
-        None => refuse(said),
     }
 }
 

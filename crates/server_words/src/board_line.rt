@@ -2,30 +2,31 @@
 ghost use Rattle.std.specs.Prelude.{◌↔◌, IsTrue};
 ghost use Rattle.server_words.specs.BoardLine.{IsCommand, IsVisibleText};
 
-use std::str;
+use chess_board::Move;
+use chess_notation::coordinate;
 
 /// What a line asks for.
 #[derive(Clone, Copy)]
-pub enum BoardCommand<'a> {
-    /// To make the move of this text.
-    Move(&'a str),
+pub enum BoardCommand {
+    /// To make this move.
+    Move(Move),
+    /// To make a move of a text that names none.
+    NoMove,
     /// Nothing that is known.
     Bad,
 }
 
 /// Reads a line, without the line feed that ends it.
-pub fn parse(line: &[u8]) -> BoardCommand<'_>
+pub fn parse(line: &[u8]) -> BoardCommand
     ensures { IsCommand line.now result }
 {
     let Some(field) = line.strip_prefix(b"move ") else {
         return BoardCommand::Bad;
     };
-    if !is_visible_text(field) {
-        return BoardCommand::Bad;
-    }
-    match str::from_utf8(field) {
-        Ok(text) => BoardCommand::Move(text),
-        Err(_) => unreachable!("a field is of ASCII"),
+    match coordinate(field) {
+        Some(mv) => BoardCommand::Move(mv),
+        None if is_visible_text(field) => BoardCommand::NoMove,
+        None => BoardCommand::Bad,
     }
 }
 

@@ -16,7 +16,7 @@ static MOVES: [(&str, &str, bool); 3] = [
 fn legal_moves_of_positions(rt: HostRuntime) {
     for (text, named, wanted) in &MOVES {
         let board = fen_read(text).expect(&rt, "a FEN");
-        let is_legal: bool = legal(&board, coordinate(named).expect(&rt, "a move"));
+        let is_legal: bool = legal(&board, coordinate(named.as_bytes()).expect(&rt, "a move"));
         assert!(rt; is_legal == *wanted && has_legal(&board));
     }
     let listed: ArrayVec<Move, 512> = legal_moves(&Board::initial());

@@ -8,7 +8,7 @@ use std::process::Abort;
 
 // The board after a legal move.
 fn after(rt: &impl Abort, board: &Board, text: &str) -> Board {
-    let mv = coordinate(text).expect(rt, "a move");
+    let mv = coordinate(text.as_bytes()).expect(rt, "a move");
     assert!(rt; board.halfmove() < u16::MAX && board.fullmove() < u16::MAX && legal(board, mv));
     board.apply(mv)
 }

@@ -17,7 +17,7 @@ static TEXTS: [(&str, &str, &str, &str); 4] = [
 fn texts_of_moves(rt: HostRuntime) {
     for (position, named, text, other) in &TEXTS {
         let board = fen_read(position).expect(&rt, "a FEN");
-        let mv = coordinate(named).expect(&rt, "a move");
+        let mv = coordinate(named.as_bytes()).expect(&rt, "a move");
         assert!(rt; legal(&board, mv));
         let written: ArrayString<8> = write(&board, mv);
         let found: Option<Move> = read(&board, text);

@@ -50,7 +50,7 @@ const GAME: &str = "\
 [Article \"5.1.1\"]\n[Termination \"normal\"]\n[TimeControl \"300+2\"]\n\n1. f3 e5 2. g4 Qh4# 0-1\n\n";
 
 fn named(rt: &impl Abort, text: &str) -> Move {
-    let mv: Option<Move> = coordinate(text);
+    let mv: Option<Move> = coordinate(text.as_bytes());
     mv.expect(rt, "a move")
 }
 

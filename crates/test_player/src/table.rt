@@ -181,9 +181,10 @@ impl TablePlayer {
                 if self.table.entries() == u64::MAX {
                     return Err(Fault::Input);
                 }
-                let line = enter_answered(&mut self.table, &entry)?;
+                let mut reply = self.alone(AnswerLine::new());
+                enter_answered(&mut self.table, &entry, &mut reply.line)?;
                 self.keep(&entry)?;
-                Ok(self.alone(line))
+                Ok(reply)
             }
         }
     }

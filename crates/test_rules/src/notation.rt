@@ -18,11 +18,11 @@ const UNNAMED: &str =
 #[test]
 fn coordinates_name_squares_and_other_texts_nothing(rt: HostRuntime) {
     for (text, from, to, promotion) in &NAMED {
-        let mv = coordinate(text).expect(&rt, "a move");
+        let mv = coordinate(text.as_bytes()).expect(&rt, "a move");
         assert!(rt; mv.from.number() == *from && mv.to.number() == *to);
         assert!(rt; mv.promotion == *promotion);
     }
     for text in UNNAMED.split('|') {
-        assert!(rt; coordinate(text) == None);
+        assert!(rt; coordinate(text.as_bytes()) == None);
     }
 }

@@ -42,7 +42,7 @@ fn positions_are_the_same_or_not(rt: HostRuntime) {
 
 // The board after a legal move.
 fn after(rt: &impl Abort, board: &Board, text: &str) -> Board {
-    let mv = coordinate(text).expect(rt, "a move");
+    let mv = coordinate(text.as_bytes()).expect(rt, "a move");
     assert!(rt; board.halfmove() < u16::MAX && board.fullmove() < u16::MAX);
     after_legal(board, mv).expect(rt, "legal")
 }

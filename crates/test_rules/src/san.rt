@@ -16,7 +16,7 @@ fn expect_text(rt: &impl Abort, board: &Board, mv: &Move, text: &str) {
 #[test]
 fn counters_at_their_end_change_no_text(rt: HostRuntime) {
     let board = fen_read("1k6/8/8/8/4Q2Q/8/8/K6Q w - - 65535 65535").expect(&rt, "a FEN");
-    let checks = coordinate("e4e8").expect(&rt, "a move");
+    let checks = coordinate(b"e4e8").expect(&rt, "a move");
     expect_text(&rt, &board, &checks, "Qe8+");
 }
 

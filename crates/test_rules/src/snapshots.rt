@@ -62,7 +62,11 @@ fn check_row(rt: &impl Abort, alloc: Global, (white, black, texts, ending, is_ga
     let mut moves = Vec::new(alloc);
     let mut count = 0u32;
     for text in *texts {
-        assert!(rt; moves.push(coordinate(text).expect(rt, "a move")).is_ok());
+        assert!(rt;
+            moves
+                .push(coordinate(text.as_bytes()).expect(rt, "a move"))
+                .is_ok()
+        );
         count = count.saturating_add(1);
     }
     let head = head_of(white, black, count, *ending);

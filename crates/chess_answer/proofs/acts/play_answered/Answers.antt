@@ -1,12 +1,12 @@
-use Rattle.std.proofs.Common.{ℕ, ◌≡◌, ◌+◌, ◌∙◌, ap, sym, subst, List, [], ◌∷◌, ◌++◌}
-use Rattle.std.specs.Prelude.{Option, Some, codes, decimal}
+use Rattle.std.proofs.Common.{ℕ, ◌≡◌, ◌∙◌, ap, sym, subst, List, ◌∷◌}
+use Rattle.std.specs.Prelude.{Option, Some}
 use Rattle.chess_board.specs.Position.{Position}
 use Rattle.chess_board.specs.Next.{next}
 use Rattle.chess_notation.specs.San.{IsSan}
 use Rattle.chess_end.specs.declared.ending.Ending.{Ending}
-use Rattle.chess_entry.specs.State.{GameState, position_of, ply_of}
+use Rattle.chess_entry.specs.State.{GameState, position_of}
 use Rattle.chess_entry.specs.Outcome.{ending_with}
-use Rattle.chess_answer.specs.Fields.{with_fields, ok_text, end_fields}
+use Rattle.chess_answer.specs.Fields.{with_fields, end_fields}
 use Rattle.chess_answer.proofs.Playing.{position-moved, ending-moved}
 use Rattle.chess_answer.proofs.acts.play_answered.Goals as goal
 
@@ -25,15 +25,13 @@ returns-clause-told c =
     let ended : c.play.new.self.ending ≡ ending_with game.start game.moves (Some m) =
     ap (λ (g : GameState). g.ending) c.in_ok-play.ensures.made
     ∙ ending-moved game c.args.at m c.requires.in_time.running.goes_on in
-    let numbered : c.push_number_field.new.text.bytes ≡
-    ok_text (codes "move") game.number [] ++ 32 ∷ decimal (ply_of game + 1) = cc in
     record {
       san = c.push_made.ensures.san;
       is_san = subst San' c.board.ensures c.push_made.ensures.is_san;
       told = c.push_made.ensures.told
           ∙ ap (λ (by : Option Ending).
-          with_fields c.push_number_field.new.text.bytes (c.push_made.ensures.san ∷ end_fields by))
+          with_fields c.begin_move.new.said.bytes (c.push_made.ensures.san ∷ end_fields by))
           ended
           ∙ ap (λ (text : List ℕ). with_fields text
-          (c.push_made.ensures.san ∷ end_fields (ending_with game.start game.moves (Some m)))) numbered;
+          (c.push_made.ensures.san ∷ end_fields (ending_with game.start game.moves (Some m)))) c.begin_move.ensures.bytes;
     }

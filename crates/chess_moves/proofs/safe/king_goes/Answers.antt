@@ -1,37 +1,25 @@
-use Rattle.std.proofs.Common.{◌∙◌, ap, sym, subst, refl, List, Bool}
-use Rattle.std.proofs.lemmas.Bool.{false≢true}
+use Rattle.std.proofs.Common.{refl}
 use Rattle.chess_bits.specs.declared.men.Kind.TheVariants.{King}
-use Rattle.chess_bits.specs.SquaresOf.{squares_left}
-use Rattle.chess_moves.specs.Targets.{GoesTo, LeavesKingSafe}
-use Rattle.chess_moves.proofs.Safely.{KeepsSafe, keeps_start, keeps_safe, keeps_exposed, keeps_end}
+use Rattle.chess_board.specs.Position.{occupied_of}
+use Rattle.chess_moves.proofs.SetForms.{piece_set}
+use Rattle.chess_moves.proofs.Castled.{no_king_goes, king_goes_set}
 use Rattle.chess_moves.proofs.safe.king_goes.Goals as goal
 
-pub loop-to-init : goal.loop-to-init
-loop-to-init c =
+pub returns-then-is_empty : goal.returns-then-is_empty
+returns-then-is_empty c =
     let p = c.args.board.now in
-    keeps_start (GoesTo p King c.args.from) (LeavesKingSafe p c.args.from) c.targets-safe.result
-    (squares_left c.into_iter-to-iterator.result) c.targets-safe.ensures
-    (ap squares_left c.into_iter-to-iterator.ensures.into_iter_gives ∙ c.iter-to-items.ensures)
-
-pub loop-to-preserved-then-not-is_king_safe : goal.loop-to-preserved-then-not-is_king_safe
-loop-to-preserved-then-not-is_king_safe c =
-    let p = c.args.board.now in
-    let Keeps' : List Bool → Type 0 = λ set. KeepsSafe (GoesTo p King c.args.from) (LeavesKingSafe p c.args.from) set
-    (squares_left c.next.new.self) in
-    subst Keeps' (sym c.remove.ensures.removed)
-    (keeps_exposed (GoesTo p King c.args.from) (LeavesKingSafe p c.args.from) c.loop-to.safe c.in-Some.to
-    (squares_left c.next.new.self) (squares_left c.loop-to.to-iterator) c.loop-to.invariant c.in-Some.ensures.steps
-    c.remove.ensures.on_board (λ safe. false≢true (c.if-not-is_king_safe.ensures.1 safe)))
-
-pub loop-to-preserved : goal.loop-to-preserved
-loop-to-preserved c =
-    let p = c.args.board.now in
-    keeps_safe (GoesTo p King c.args.from) (LeavesKingSafe p c.args.from) c.loop-to.safe c.in-Some.to
-    (squares_left c.next.new.self) (squares_left c.loop-to.to-iterator) c.loop-to.invariant c.in-Some.ensures.steps
-    (c.if-not-is_king_safe.ensures.0 refl)
+    no_king_goes p c.args.from c.without-reached.result
+    (rw c.without-reached.ensures
+    (piece_set p c.args.from King c.king.result c.men_of.result (c.king.ensures (occupied_of p.placement) p.side)
+    (rw c.side.ensures at c.men_of.ensures.held)))
+    (c.if-is_empty.ensures.0 refl)
 
 pub returns : goal.returns
 returns c =
     let p = c.args.board.now in
-    keeps_end (GoesTo p King c.args.from) (LeavesKingSafe p c.args.from) c.loop-to.safe
-    (squares_left c.loop-to.to-iterator) c.loop-to.invariant c.in-None.ensures.steps.0
+    rw (c.union.ensures, c.without.ensures, c.union-castled.ensures, c.without-reached.ensures)
+    (king_goes_set p c.args.from _ c.attacked_without-attacked.result c.castled_to.result c.castled_to-2.result
+    c.requires.masks.valid c.requires.own
+    (piece_set p c.args.from King c.king.result c.men_of.result (c.king.ensures (occupied_of p.placement) p.side)
+    (rw c.side.ensures at c.men_of.ensures.held))
+    c.attacked_without-attacked.ensures c.castled_to.ensures c.castled_to-2.ensures)
