@@ -27,10 +27,9 @@ use Rattle.lobby_guests.specs.Origins.{IsToldOrigin}
 use Rattle.lobby_talk.specs.declared.talk.Talk.{Talk}
 use Rattle.lobby_talk.specs.Talking.{Moves, Opens, IsTextSaid, acts_at}
 use Rattle.lobby_talk.specs.Counting.{is_for, is_answer, refuses_login}
-use Rattle.lobby_talk.specs.Keeping.{IsMadeOf}
+use Rattle.lobby_talk.specs.Keeping.{IsMadeOf, IsPutIf}
 use Rattle.lobby_talk.specs.Replaying.{Replays}
 use Rattle.lobby_talk.specs.declared.kept_answer.KeptAnswer.{KeptAnswer}
-use Rattle.lobby_talk.specs.declared.under_way.UnderWay.{UnderWay}
 use Rattle.lobby_guests.specs.declared.rounds.Asks.{Asks}
 use Rattle.lobby_guests.specs.declared.rounds.Round.{Round}
 use Rattle.lobby_guests.specs.declared.waiting.Waiting.{Waiting}
@@ -658,17 +657,17 @@ has_waiting guests talk = is_some talk.replay || is_some (first_wanted guests)
 -- At a moment each browser is told those of these messages that are for its connection, whole and in their order, as
 -- they go out; but behind an answer that is not there yet they wait. Then the replay under way goes on, or one begins
 -- for what waits longest. Where that brings an answer, the first who waits for it is told it, and what stands behind
--- it, up to the next such. One whose socket may say nothing is told nothing, and one for which there is no room or
--- memory has its socket ended.
-pub record AreDelivered {S : Type 0} (at : ℕ) (kept : List KeptAnswer) (told : List Message)
-    (replay after : Option UnderWay) (old new : List (Guest S)) : Type 0 where
+-- it, up to the next such, and it is kept. One whose socket may say nothing is told nothing, and one for which there is
+-- no room or memory has its socket ended.
+pub record AreDelivered {S : Type 0} (at : ℕ) (talk after : Talk) (old new : List (Guest S)) : Type 0 where
   pub made : List Message
-  pub are_made : AllZip (IsMadeOf kept) told made
+  pub are_made : AllZip (IsMadeOf talk.kept.answers.items) talk.told.items made
   pub first : List (Guest S)
   pub are_told : AllZip (AreTold at made) old first
   pub caught_up : AllZip (IsCaughtUp at) first new
-  pub answers : ∥ ((answer : Option KeptAnswer) × Replays kept (wanted_text first) replay after answer
-      × AreAnswered answer first new) ∥₁
+  pub answers : ∥ ((answer : Option KeptAnswer)
+      × Replays talk.kept.answers.items (wanted_text first) talk.replay after.replay answer
+      × AreAnswered answer first new × IsPutIf answer talk.kept.answers.items after.kept.answers.items) ∥₁
 
 -- What was written stood in front of what waits to be written, at most 16,384 bytes of it, and its connection goes on
 -- behind it: more may be heard then, where it is not over. Or nothing was, and it may have failed.

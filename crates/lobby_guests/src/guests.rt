@@ -427,8 +427,7 @@ pub fn deliver<S>(
     talk: &mut Talk,
     counts: &mut Counts,
 ) -> Result<(), AllocError>
-    ensures guests { OnOk result (AreDelivered counts.old.at talk.old.kept.answers.items talk.old.told.items
-        talk.old.replay talk.new.replay guests.old.items guests.new.items) }
+    ensures guests { OnOk result (AreDelivered counts.old.at talk.old talk.new guests.old.items guests.new.items) }
     ensures none { OnOk result (talk.new.told.items ≡ []) }
     ensures desk { OnOk result (talk.new.desk ≡ talk.old.desk) }
     ensures wire { OnOk result (talk.new.wire ≡ talk.old.wire) }

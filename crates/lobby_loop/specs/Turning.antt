@@ -212,14 +212,13 @@ HasLong {old = old} {new = new} takes =
     IsAnswered takes.parted.desk old.rounds.asks.asker × (has_later new.rounds.asks.long ≡ true)
 
 -- What is to go is handed out at a moment: what the desk told is delivered, for which of all replays the one under way
--- goes on by at most 16 plies, or one begins; and what is to go is written, to the server and to each browser, but in a
+-- goes on by at most 16 plies, or one begins, and the answer is kept that this brings; and what is to go is written, to the server and to each browser, but in a
 -- short turn to none that acts for nobody; and the desk is told who is let go.
 pub record HandsAllOut {S : Type 0} (contents : S → Option (List ℕ)) (at : ℕ) (is_short : Bool)
     (old new : Hall S) : Type 0 where
   pub told : List (Guest S)
   pub rest : Talk
-  pub delivers : AreDelivered at old.talk.kept.answers.items old.talk.told.items old.talk.replay rest.replay
-      old.guests.items told
+  pub delivers : AreDelivered at old.talk rest old.guests.items told
   pub desk : rest.desk ≡ old.talk.desk
   pub next : rest.next ≡ old.talk.next
   pub none : rest.told.items ≡ []
