@@ -508,10 +508,20 @@ abbrev pub LeavesOthers : {S : Type 0} → {remaining : S → Option (List ℕ)}
     → {old new : List (Guest S)} → {talk after : Talk} → AreAttended remaining site at old new talk after → Type 0
 LeavesOthers {new = new} {after = after} attended = (new ≡ attended.first) × (after ≡ attended.said.talk)
 
--- Of players nothing is heard.
+-- Nothing is there to be read of one, if it is not to be closed, and bytes are wanted.
+abbrev pub IsDrained : {S : Type 0} → Guest S → Type 0
+IsDrained guest = guest.is_lost ≡ false → WantsBytes guest.browser.stage → guest.can_read ≡ false
+
+-- The same of one that acts for a player and has time, once it was its turn.
+abbrev pub IsPlayerDrained : {S : Type 0} → Desk → ℕ → Guest S → Guest S → Type 0
+IsPlayerDrained desk at old new =
+    acts_at desk old.number ≡ true → has_time at old.paid_until ≡ true → IsDrained new
+
+-- Of players nothing is heard, and of none who has time anything is there to be read.
 abbrev pub HearsNoPlayer : {S : Type 0} → {remaining : S → Option (List ℕ)} → {site : Site} → {at : ℕ}
     → {old new : List (Guest S)} → {talk after : Talk} → AreAttended remaining site at old new talk after → Type 0
-HearsNoPlayer {talk = talk} attended = attended.said.talk ≡ talk
+HearsNoPlayer {at = at} {old = old} {talk = talk} attended =
+    (attended.said.talk ≡ talk) × AllZip (IsPlayerDrained talk.desk at) old attended.first
 
 -- It is known who asked for much last, where the rounds go on, and until when each player has paid for his acts.
 abbrev pub KnowsAsks : {S : Type 0} → {remaining : S → Option (List ℕ)} → {site : Site} → {at : ℕ}
@@ -685,6 +695,38 @@ pub record IsWritten {S : Type 0} (contents : S → Option (List ℕ)) (site : S
   pub goes : (new.browser ≡ old.browser) × (count ≡ 0) ⊎ Writes site count old.browser.stage new.browser.stage
   pub more : (new.browser ≡ old.browser) ⊎ IsOver new.browser.stage ⊎ (new.has_more ≡ true)
   pub keeps : old.has_more ≡ true → new.has_more ≡ true
+
+-- Something waits to be written to one that its socket may take, and it is not to be closed.
+abbrev pub is_writable : {S : Type 0} → Guest S → Bool
+is_writable guest = guest.can_write && not guest.is_lost && nat_lt 0 (length (pending guest.browser.stage))
+
+-- To so many players more than a little, 2,048 bytes, is written in a turn at most.
+abbrev pub told_most : ℕ
+told_most = 8
+
+-- Whether something is to be written to a player: at once, or where that is its turn, and then it has it; and else
+-- there is nothing to be written that its socket may take, or that is more than a little and it is not its turn.
+abbrev pub IsToBeTold : {S : Type 0} → Bool → Desk → Guest S → Round → Round → Type 0
+IsToBeTold true desk guest round after =
+    (after ≡ round) ⊎ (is_at guest.key round ≡ true) × (after ≡ behind guest.key round)
+IsToBeTold false desk guest round after =
+    (after ≡ round) × ((acts_at desk guest.number ≡ false) ⊎ (is_writable guest ≡ false)
+    ⊎ (2048 < length (pending guest.browser.stage)) × (is_at guest.key round ≡ false))
+
+-- Nothing was written to one though it was to be, since its socket takes nothing; or it was not to be.
+abbrev pub IsUntoldIf : {S : Type 0} → Bool → Guest S → Guest S → Type 0
+IsUntoldIf true old new = (new.browser ≡ old.browser) × (is_writable new ≡ false)
+IsUntoldIf false old new = new ≡ old
+
+abbrev pub IsUntold : {S : Type 0} → Desk → Guest S → Guest S → Round → Round → Type 0
+IsUntold desk old new round after =
+    (is_turn : Bool) × IsToBeTold is_turn desk old round after × IsUntoldIf is_turn old new
+
+-- In a turn nothing was written to any player, and none has to wait for its turn: all had one who could have one.
+abbrev pub IsNobodyTold : {S : Type 0} → Desk → List (Guest S) → List (Guest S) → Round → Round → Type 0
+IsNobodyTold desk old new before after =
+    (said : Round) × InTurn (IsUntold desk) old new (begun told_most (next_name old) before) said
+    × (after ≡ over said) × (has_later after ≡ false)
 
 -- To who acts for nobody nothing is written.
 abbrev pub LeavesStranger : {S : Type 0} → Desk → Guest S → Guest S → Type 0

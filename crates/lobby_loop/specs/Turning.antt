@@ -17,7 +17,7 @@ use Rattle.lobby_guests.specs.Origins.{IsPlain, IsFrom}
 use Rattle.lobby_guests.specs.Paces.{paid_by}
 use Rattle.lobby_guests.specs.Guests.{IsNewGuest, ComesFrom, AreAttended, AreDelivered, IsWritten, IsLookedAfter}
 use Rattle.lobby_guests.specs.Guests.{AreParted, has_waiting, earlier, first_due, LeavesOthers, LeavesStranger}
-use Rattle.lobby_guests.specs.Guests.{KnowsAsks, IsAnswered, has_later}
+use Rattle.lobby_guests.specs.Guests.{KnowsAsks, IsAnswered, IsNobodyTold, has_later}
 use Rattle.lobby_talk.specs.Held.{TakesIn, HandsOn, IsKept}
 use Rattle.lobby_loop.specs.Seating.{AreSeatedIf}
 use Rattle.lobby_loop.specs.declared.hall.Hall.{Hall}
@@ -232,6 +232,12 @@ pub record HandsAllOut {S : Type 0} (contents : S → Option (List ℕ)) (at : �
   pub parted_from : AreParted written new.guests.items rest new.talk
   pub site : new.site ≡ old.site
   pub door : KeepsDoor old new
+
+-- Nothing was written to any player, and nothing is left for one that could be written at once.
+abbrev pub TellsNoPlayer : {S : Type 0} → {contents : S → Option (List ℕ)} → {at : ℕ} → {is_short : Bool}
+    → {old new : Hall S} → HandsAllOut contents at is_short old new → Type 0
+TellsNoPlayer {old = old} {new = new} hands =
+    IsNobodyTold hands.rest.desk hands.told hands.first old.rounds.told new.rounds.told
 
 -- the next moment behind one at which there is something to do though no socket is ready, where anybody is there:
 -- somebody's next message is taken, or an act that waits since its player has paid too far ahead, or it is looked after
