@@ -17,8 +17,8 @@ use Rattle.lobby_guests.specs.Origins.{IsPlain, IsFrom}
 use Rattle.lobby_guests.specs.Paces.{paid_by}
 use Rattle.lobby_guests.specs.Guests.{IsNewGuest, ComesFrom, AreAttended, AreDelivered, IsWritten, IsLookedAfter}
 use Rattle.lobby_guests.specs.Guests.{AreParted, has_waiting, earlier, first_due, LeavesOthers, LeavesStranger}
-use Rattle.lobby_guests.specs.Guests.{KnowsAsks, IsAnswered, IsNobodyTold, has_later}
-use Rattle.lobby_talk.specs.Held.{TakesIn, HandsOn, IsKept}
+use Rattle.lobby_guests.specs.Guests.{KnowsAsks, IsAnswered, HearsNoPlayer, IsNobodyTold, has_later}
+use Rattle.lobby_talk.specs.Held.{TakesIn, HandsOn, IsKept, IsDrained, IsHandedOn}
 use Rattle.lobby_loop.specs.Seating.{AreSeatedIf}
 use Rattle.lobby_loop.specs.declared.hall.Hall.{Hall}
 use Rattle.lobby_loop.specs.declared.lobby.Turned.{Turned}
@@ -233,11 +233,17 @@ pub record HandsAllOut {S : Type 0} (contents : S → Option (List ℕ)) (at : �
   pub site : new.site ≡ old.site
   pub door : KeepsDoor old new
 
--- Nothing was written to any player, and nothing is left for one that could be written at once.
-abbrev pub TellsNoPlayer : {S : Type 0} → {contents : S → Option (List ℕ)} → {at : ℕ} → {is_short : Bool}
+-- Of the server and of players nothing is heard, and nothing of them is there to be read.
+abbrev pub HearsNothing : {S : Type 0} → {remaining : S → Option (List ℕ)} → {at : ℕ} → {is_short : Bool}
+    → {old new : Hall S} → TakesAllIn remaining at is_short old new → Type 0
+HearsNothing takes = HearsNoPlayer takes.attends × IfSome takes.server_heard (λ link. IsDrained link)
+
+-- Nothing was written to any player, and nothing is left for one that could be written at once, or for the server.
+abbrev pub TellsNothing : {S : Type 0} → {contents : S → Option (List ℕ)} → {at : ℕ} → {is_short : Bool}
     → {old new : Hall S} → HandsAllOut contents at is_short old new → Type 0
-TellsNoPlayer {old = old} {new = new} hands =
+TellsNothing {old = old} {new = new} hands =
     IsNobodyTold hands.rest.desk hands.told hands.first old.rounds.told new.rounds.told
+    × IfSome new.server (λ link. IsHandedOn link hands.rest.wire.items)
 
 -- the next moment behind one at which there is something to do though no socket is ready, where anybody is there:
 -- somebody's next message is taken, or an act that waits since its player has paid too far ahead, or it is looked after

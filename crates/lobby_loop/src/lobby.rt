@@ -4,10 +4,11 @@ ghost use Rattle.std.specs.Prelude.{IfOk, OnOk, OnErr, ◌⊎◌};
 ghost use Rattle.mio.specs.declared.net.stream.TcpStream.{TcpStream};
 ghost use Rattle.mio.specs.declared.net.uds.stream.UnixStream.{UnixStream};
 ghost use Rattle.either.specs.declared.Either.{Either};
-ghost use Rattle.lobby_guests.specs.Guests.{HearsNoPlayer, has_later, is_crowded};
+ghost use Rattle.lobby_guests.specs.Guests.{has_later, is_crowded};
 ghost use Rattle.either.specs.Either.{either};
 ghost use Rattle.lobby_loop.specs.Turning.{BeginsHall, Comer, AreAdmitted, IsReached, IsLobbyTurn, has_more, texts_put};
-ghost use Rattle.lobby_loop.specs.Turning.{unknown, short_after, left_at, held_after, HasLong, WaitsFor, TellsNoPlayer};
+ghost use Rattle.lobby_loop.specs.Turning.{unknown, short_after, left_at, held_after, HasLong, WaitsFor};
+ghost use Rattle.lobby_loop.specs.Turning.{HearsNothing, TellsNothing};
 ghost use Rattle.lobby_loop.specs.Resting.{moment_if, call_moment, own_moment, WaitsForItself};
 ghost use Rattle.lobby_loop.specs.Living.{IsWoken, Files, KeepsFiles, Renews, Finds};
 ghost use Rattle.lobby_loop.specs.Comers.{seen, is_over};
@@ -410,8 +411,7 @@ impl Lobby {
             × Logs (L.logged log.old) (L.logged log.new) (texts_put turn.turns)
             × IsToldLast (halted turn.turns.between.talk.desk.halts) (K.last_halts links.new)
             × (HasLong turn.turns.takes → turned ≡ Worked)
-            × ((turned ≡ Worked)
-            ⊎ HearsNoPlayer turn.turns.takes.attends × TellsNoPlayer turn.turns.hands)) }
+            × ((turned ≡ Worked) ⊎ HearsNothing turn.turns.takes × TellsNothing turn.turns.hands)) }
         ensures short { OnOk result (self.new.short_until ≡ short_after self.old.short_until at) }
         ensures held { OnOk result (self.new.held_until
             ≡ held_after self.old.held_until (is_crowded self.old.hall.guests.items) at) }

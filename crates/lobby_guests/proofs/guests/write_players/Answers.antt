@@ -37,9 +37,11 @@ loop-guest-preserved g c =
       λ none. turned_further (IsUntold c.args.talk.now.desk) c.args.guests.now.items items c.loop-guest.guest-index
           c.guest-item.result c.write_out-any.new.self
           (begun told_most (next_name c.args.guests.now.items) c.args.round.now) c.loop-guest.round
-          c.has_players_turn-is_turn.new.round lt (c.loop-guest.invariant.1 (or_left _ _ none))
-          (c.has_players_turn-is_turn.result, c.has_players_turn-is_turn.ensures.turn,
-          c.write_out-any.ensures.none (or_right _ _ none)),
+          c.has_players_turn-is_turn.new.round lt (c.loop-guest.invariant.1 (or_left _ _ none)) (
+            c.has_players_turn-is_turn.result,
+            c.has_players_turn-is_turn.ensures.turn,
+            c.write_out-any.ensures.none (or_right _ _ none),
+          ),
     )
 
 pub returns-clause-written : goal.returns-clause-written
