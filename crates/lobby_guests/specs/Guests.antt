@@ -27,10 +27,9 @@ use Rattle.lobby_guests.specs.Origins.{IsToldOrigin}
 use Rattle.lobby_talk.specs.declared.talk.Talk.{Talk}
 use Rattle.lobby_talk.specs.Talking.{Moves, Opens, IsTextSaid, acts_at}
 use Rattle.lobby_talk.specs.Counting.{is_for, is_answer, refuses_login}
-use Rattle.lobby_talk.specs.Keeping.{IsMadeOf}
+use Rattle.lobby_talk.specs.Keeping.{IsMadeOf, IsPutIf}
 use Rattle.lobby_talk.specs.Replaying.{Replays}
 use Rattle.lobby_talk.specs.declared.kept_answer.KeptAnswer.{KeptAnswer}
-use Rattle.lobby_talk.specs.declared.under_way.UnderWay.{UnderWay}
 use Rattle.lobby_guests.specs.declared.rounds.Asks.{Asks}
 use Rattle.lobby_guests.specs.declared.rounds.Round.{Round}
 use Rattle.lobby_guests.specs.declared.waiting.Waiting.{Waiting}
@@ -509,10 +508,20 @@ abbrev pub LeavesOthers : {S : Type 0} → {remaining : S → Option (List ℕ)}
     → {old new : List (Guest S)} → {talk after : Talk} → AreAttended remaining site at old new talk after → Type 0
 LeavesOthers {new = new} {after = after} attended = (new ≡ attended.first) × (after ≡ attended.said.talk)
 
--- Of players nothing is heard.
+-- Nothing is there to be read of one, if it is not to be closed, and bytes are wanted.
+abbrev pub IsDrained : {S : Type 0} → Guest S → Type 0
+IsDrained guest = guest.is_lost ≡ false → WantsBytes guest.browser.stage → guest.can_read ≡ false
+
+-- The same of one that acts for a player and has time, once it was its turn.
+abbrev pub IsPlayerDrained : {S : Type 0} → Desk → ℕ → Guest S → Guest S → Type 0
+IsPlayerDrained desk at old new =
+    acts_at desk old.number ≡ true → has_time at old.paid_until ≡ true → IsDrained new
+
+-- Of players nothing is heard, and of none who has time anything is there to be read.
 abbrev pub HearsNoPlayer : {S : Type 0} → {remaining : S → Option (List ℕ)} → {site : Site} → {at : ℕ}
     → {old new : List (Guest S)} → {talk after : Talk} → AreAttended remaining site at old new talk after → Type 0
-HearsNoPlayer {talk = talk} attended = attended.said.talk ≡ talk
+HearsNoPlayer {at = at} {old = old} {talk = talk} attended =
+    (attended.said.talk ≡ talk) × AllZip (IsPlayerDrained talk.desk at) old attended.first
 
 -- It is known who asked for much last, where the rounds go on, and until when each player has paid for his acts.
 abbrev pub KnowsAsks : {S : Type 0} → {remaining : S → Option (List ℕ)} → {site : Site} → {at : ℕ}
@@ -658,17 +667,17 @@ has_waiting guests talk = is_some talk.replay || is_some (first_wanted guests)
 -- At a moment each browser is told those of these messages that are for its connection, whole and in their order, as
 -- they go out; but behind an answer that is not there yet they wait. Then the replay under way goes on, or one begins
 -- for what waits longest. Where that brings an answer, the first who waits for it is told it, and what stands behind
--- it, up to the next such. One whose socket may say nothing is told nothing, and one for which there is no room or
--- memory has its socket ended.
-pub record AreDelivered {S : Type 0} (at : ℕ) (kept : List KeptAnswer) (told : List Message)
-    (replay after : Option UnderWay) (old new : List (Guest S)) : Type 0 where
+-- it, up to the next such, and it is kept. One whose socket may say nothing is told nothing, and one for which there is
+-- no room or memory has its socket ended.
+pub record AreDelivered {S : Type 0} (at : ℕ) (talk after : Talk) (old new : List (Guest S)) : Type 0 where
   pub made : List Message
-  pub are_made : AllZip (IsMadeOf kept) told made
+  pub are_made : AllZip (IsMadeOf talk.kept.answers.items) talk.told.items made
   pub first : List (Guest S)
   pub are_told : AllZip (AreTold at made) old first
   pub caught_up : AllZip (IsCaughtUp at) first new
-  pub answers : ∥ ((answer : Option KeptAnswer) × Replays kept (wanted_text first) replay after answer
-      × AreAnswered answer first new) ∥₁
+  pub answers : ∥ ((answer : Option KeptAnswer)
+      × Replays talk.kept.answers.items (wanted_text first) talk.replay after.replay answer
+      × AreAnswered answer first new × IsPutIf answer talk.kept.answers.items after.kept.answers.items) ∥₁
 
 -- What was written stood in front of what waits to be written, at most 16,384 bytes of it, and its connection goes on
 -- behind it: more may be heard then, where it is not over. Or nothing was, and it may have failed.
@@ -686,6 +695,38 @@ pub record IsWritten {S : Type 0} (contents : S → Option (List ℕ)) (site : S
   pub goes : (new.browser ≡ old.browser) × (count ≡ 0) ⊎ Writes site count old.browser.stage new.browser.stage
   pub more : (new.browser ≡ old.browser) ⊎ IsOver new.browser.stage ⊎ (new.has_more ≡ true)
   pub keeps : old.has_more ≡ true → new.has_more ≡ true
+
+-- Something waits to be written to one that its socket may take, and it is not to be closed.
+abbrev pub is_writable : {S : Type 0} → Guest S → Bool
+is_writable guest = guest.can_write && not guest.is_lost && nat_lt 0 (length (pending guest.browser.stage))
+
+-- To so many players more than a little, 2,048 bytes, is written in a turn at most.
+abbrev pub told_most : ℕ
+told_most = 8
+
+-- Whether something is to be written to a player: at once, or where that is its turn, and then it has it; and else
+-- there is nothing to be written that its socket may take, or that is more than a little and it is not its turn.
+abbrev pub IsToBeTold : {S : Type 0} → Bool → Desk → Guest S → Round → Round → Type 0
+IsToBeTold true desk guest round after =
+    (after ≡ round) ⊎ (is_at guest.key round ≡ true) × (after ≡ behind guest.key round)
+IsToBeTold false desk guest round after =
+    (after ≡ round) × ((acts_at desk guest.number ≡ false) ⊎ (is_writable guest ≡ false)
+    ⊎ (2048 < length (pending guest.browser.stage)) × (is_at guest.key round ≡ false))
+
+-- Nothing was written to one though it was to be, since its socket takes nothing; or it was not to be.
+abbrev pub IsUntoldIf : {S : Type 0} → Bool → Guest S → Guest S → Type 0
+IsUntoldIf true old new = (new.browser ≡ old.browser) × (is_writable new ≡ false)
+IsUntoldIf false old new = new ≡ old
+
+abbrev pub IsUntold : {S : Type 0} → Desk → Guest S → Guest S → Round → Round → Type 0
+IsUntold desk old new round after =
+    (is_turn : Bool) × IsToBeTold is_turn desk old round after × IsUntoldIf is_turn old new
+
+-- In a turn nothing was written to any player, and none has to wait for its turn: all had one who could have one.
+abbrev pub IsNobodyTold : {S : Type 0} → Desk → List (Guest S) → List (Guest S) → Round → Round → Type 0
+IsNobodyTold desk old new before after =
+    (said : Round) × InTurn (IsUntold desk) old new (begun told_most (next_name old) before) said
+    × (after ≡ over said) × (has_later after ≡ false)
 
 -- To who acts for nobody nothing is written.
 abbrev pub LeavesStranger : {S : Type 0} → Desk → Guest S → Guest S → Type 0

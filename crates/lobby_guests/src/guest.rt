@@ -1,6 +1,6 @@
 //! A browser's connection: its socket, what it says, and what it is told.
 ghost use Rattle.std.specs.Prelude.{ℕ, ◌≡◌, ◌≢◌, ◌<◌, ◌≤◌, ◌+◌, ◌/◌, ◌↔◌, ◌||◌, None, Some, [], length, true, false};
-ghost use Rattle.std.specs.Prelude.{IsTrue, OnOk, IfOk};
+ghost use Rattle.std.specs.Prelude.{IsTrue, OnOk, IfOk, ◌⊎◌};
 ghost use Rattle.lobby_desk.specs.Who.{IsReady, at_table};
 ghost use Rattle.lobby_guests.specs.Guests.{has_time, IsNewGuest, ComesFrom, IsRead, IsStill};
 ghost use Rattle.lobby_guests.specs.Guests.{IsHeardAs, IsHeard, IsAsked, is_untimely, MaySpeak, MayBeAsked, IsSaid};
@@ -8,6 +8,7 @@ ghost use Rattle.lobby_guests.specs.Guests.{IsTold, is_free};
 ghost use Rattle.lobby_guests.specs.Guests.{NotesLogin, IsPutBehind, IsNextTold, IsCaughtUp, IsSameVisit};
 ghost use Rattle.lobby_guests.specs.Guests.{is_first, IsAnsweredAt};
 ghost use Rattle.lobby_guests.specs.Guests.{AreTold, IsPinged, IsAskedUnless, IsSettled, IsWritten};
+ghost use Rattle.lobby_guests.specs.Guests.{IsDrained, is_writable, IsUntoldIf};
 ghost use Rattle.lobby_guests.specs.Counting.{CountsNoLogin};
 ghost use Rattle.lobby_guests.specs.Waiting.{must_wait, AtLine};
 ghost use Rattle.lobby_guests.specs.Waking.{IsAwake};
@@ -18,7 +19,7 @@ ghost use Rattle.lobby_talk.specs.Counting.{is_for};
 ghost use Rattle.lobby_guests.specs.Waiting as waiting;
 ghost use Rattle.lobby_guests.specs.Guests.{IsLookedAfter, is_in_time, taken_until, MayHave, may_have, IsDue};
 ghost use Rattle.lobby_guests.specs.Guests.{due_at, ahead_at, is_unheard, IsPaid, owed_after, paid_for, since_after};
-ghost use Rattle.lobby_web.specs.Browsing.{WantsBytes, unread};
+ghost use Rattle.lobby_web.specs.Browsing.{WantsBytes, unread, pending};
 ghost use Rattle.lobby_talk.specs.Counting.{refuses_login, counted_up, one_if, refuses, refusals_of};
 ghost use Rattle.lobby_guests.specs.Paces.{player_of, payer_of};
 ghost use Rattle.lobby_guests.specs.Place.{role_of, work_of, place_of, Yields};
@@ -227,8 +228,11 @@ impl<S> Guest<S> {
         }
     }
 
-    /// How many bytes wait to be written that its socket may take.
-    pub fn to_write(&self) -> usize {
+    /// How many bytes wait to be written at once that its socket may take.
+    pub fn to_write(&self) -> usize
+        ensures none { result ≡ 0 → is_writable self.now ≡ false }
+        ensures most { result ≤ length (pending self.now.browser.stage) }
+    {
         if self.can_write && !self.is_lost {
             self.browser.out().len()
         } else {
@@ -436,6 +440,7 @@ impl<S> Guest<S> {
         ensures owes { OnOk result
             (self.new.paid_until ≡ owed_after self.old.number self.new.number self.old.paid_until) }
         ensures silent { IfOk result (λ any. any ≡ false → talk.new ≡ talk.old) }
+        ensures read { IfOk result (λ any. any ≡ false → (self.new ≡ self.old) ⊎ (self.new.can_read ≡ false)) }
     {
         if !self.has_more || self.is_lost || !self.is_free() || !self.may_speak(talk) {
             return Ok(false);
@@ -721,6 +726,7 @@ impl<S: Read + Write> Guest<S> {
     fn is_to_read(&self, acts: bool) -> bool
         ensures wanted { result ≡ true → WantsBytes self.now.browser.stage }
         ensures heard { result ≡ true → acts ≡ false → self.now.has_more ≡ false }
+        ensures none { result ≡ false → acts ≡ true → IsDrained self.now }
     {
         let may = self.can_read && !self.is_lost && (acts || !self.has_more);
         may && self.browser.wants_read()
@@ -751,6 +757,7 @@ impl<S: Read + Write> Guest<S> {
     ) -> bool
         ensures read { IsRead S.remaining site.now self.old self.new }
         ensures paid { IsPaid S.remaining acts at self.old self.new }
+        ensures none { result ≡ false → acts ≡ true → IsDrained self.new }
     {
         if !self.is_to_read(acts) {
             return false;
@@ -788,6 +795,7 @@ impl<S: Read + Write> Guest<S> {
     pub fn write_out(&mut self, site: &Site, is_turn: bool) -> bool
         ensures written { IsWritten S.contents site.now self.old self.new }
         ensures waits { is_turn ≡ false → self.new ≡ self.old }
+        ensures none { result ≡ false → IsUntoldIf is_turn self.old self.new }
     {
         if !is_turn || self.to_write() == 0 {
             return false;

@@ -17,6 +17,7 @@ ghost use Rattle.lobby_guests.specs.Guests.{AreAttended, AreTold, AreDelivered, 
 ghost use Rattle.lobby_guests.specs.Guests.{AreClosed, AreParted, IsCaughtUp, AreAnswered, first_wanted, has_waiting};
 ghost use Rattle.lobby_guests.specs.Guests.{wanted_text};
 ghost use Rattle.lobby_guests.specs.Guests.{LeavesOthers, HearsNoPlayer, LeavesStranger};
+ghost use Rattle.lobby_guests.specs.Guests.{IsDrained, IsPlayerDrained, IsToBeTold, IsNobodyTold};
 ghost use Rattle.lobby_guests.specs.Waking.{IsAwake, StaysUnlessNamed, IsAwakeIfNamed, NamesGrow, IsPlaceNamed};
 ghost use Rattle.lobby_guests.specs.Waking.{number_named};
 ghost use Rattle.lobby_guests.specs.Waiting as waiting;
@@ -148,6 +149,7 @@ fn serve_player<S: Read + Write, K: KeepsLinks>(
     ensures served { OnOk result (IsPlayerServed S.remaining site.now at guest.old guest.new
         (room_of talk.old asks.old) (room_of talk.new asks.new)) }
     ensures silent { IfOk result (λ any. any ≡ false → talk.new ≡ talk.old) }
+    ensures drained { IfOk result (λ any. any ≡ false → IsDrained guest.new) }
 {
     let has_read = guest.read_in(true, site, at, piece, coming);
     let is_asked = is_to_ask(guest, asks, talk, at)?;
@@ -172,6 +174,7 @@ fn attend_player<S: Read + Write, K: KeepsLinks>(
     ensures turned { OnOk result (IsPlayersTurn S.remaining site.now at guest.old guest.new
         (room_of talk.old asks.old) (room_of talk.new asks.new)) }
     ensures silent { IfOk result (λ any. any ≡ false → talk.new ≡ talk.old) }
+    ensures drained { IfOk result (λ any. any ≡ false → IsPlayerDrained talk.old.desk at guest.old guest.new) }
 {
     let is_turn = talk.acts(guest.number()) && guest.has_time(at);
     if !is_turn {
@@ -208,6 +211,8 @@ fn attend_players<S: Read + Write, K: KeepsLinks>(
     ensures long { IfOk result (λ any. IsAnswered talk.old.desk asks.old.asker → has_later asks.new.long ≡ true
         → any ≡ true) }
     ensures silent { IfOk result (λ any. any ≡ false → talk.new ≡ talk.old) }
+    ensures drained { IfOk result (λ any. any ≡ false
+        → AllZip (IsPlayerDrained talk.old.desk at) guests.old.items guests.new.items) }
 {
     let mut any = false;
     let is_free = is_answered(asks.asker, talk);
@@ -427,8 +432,7 @@ pub fn deliver<S>(
     talk: &mut Talk,
     counts: &mut Counts,
 ) -> Result<(), AllocError>
-    ensures guests { OnOk result (AreDelivered counts.old.at talk.old.kept.answers.items talk.old.told.items
-        talk.old.replay talk.new.replay guests.old.items guests.new.items) }
+    ensures guests { OnOk result (AreDelivered counts.old.at talk.old talk.new guests.old.items guests.new.items) }
     ensures none { OnOk result (talk.new.told.items ≡ []) }
     ensures desk { OnOk result (talk.new.desk ≡ talk.old.desk) }
     ensures wire { OnOk result (talk.new.wire ≡ talk.old.wire) }
@@ -447,7 +451,8 @@ pub fn deliver<S>(
 // Whether something is to be written to a browser that acts for a player: at once where that is short, and else where
 // it is its turn; then it has it.
 fn has_players_turn<S>(guest: &Guest<S>, talk: &Talk, round: &mut Round) -> bool
-    ensures { acts_at talk.now.desk guest.now.number ≡ false → result ≡ false }
+    ensures stranger { acts_at talk.now.desk guest.now.number ≡ false → result ≡ false }
+    ensures turn { IsToBeTold result talk.now.desk guest.now round.old round.new }
 {
     if guest.to_write() == 0 || !talk.acts(guest.number()) {
         return false;
@@ -468,6 +473,8 @@ fn write_players<S: Read + Write>(
 ) -> bool
     ensures written { AllZip (IsWritten S.contents site.now) guests.old.items guests.new.items }
     ensures strangers { AllZip (LeavesStranger talk.now.desk) guests.old.items guests.new.items }
+    ensures none { result ≡ false
+        → IsNobodyTold talk.now.desk guests.old.items guests.new.items round.old round.new }
 {
     let mut any = false;
     round.begin(TOLD_MOST, next_key(guests.as_slice()));
@@ -514,7 +521,9 @@ pub fn write_all<S: Read + Write>(
     talk: &Talk,
 ) -> bool
     ensures written { (first : List (Guest S)) × AllZip (IsWritten S.contents site.now) guests.old.items first
-        × AllZip (IsWritten S.contents site.now) first guests.new.items }
+        × AllZip (IsWritten S.contents site.now) first guests.new.items
+        × (result ≡ false
+        → IsNobodyTold talk.now.desk guests.old.items first rounds.old.told rounds.new.told) }
     ensures short { is_short ≡ true → AllZip (LeavesStranger talk.now.desk) guests.old.items guests.new.items }
     ensures asks { rounds.new.asks ≡ rounds.old.asks }
 {

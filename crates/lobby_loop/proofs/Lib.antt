@@ -8,3 +8,4 @@ pub mod Tally
 pub mod Seats
 pub mod Leaving
 pub mod Waiting
+pub mod Handing

@@ -28,7 +28,6 @@ use Rattle.lobby_guests.specs.Waiting.{AtLine}
 use Rattle.lobby_loop.specs.declared.hall.Hall.{Hall}
 use Rattle.lobby_talk.specs.declared.link.Link.{Link}
 use Rattle.lobby_talk.specs.declared.talk.Talk.{Talk}
-use Rattle.lobby_talk.specs.declared.under_way.UnderWay.{UnderWay}
 use Rattle.lobby_talk.specs.Talking.{Saying, InTime, TooFast, WithLink, saying, Moves}
 use Rattle.lobby_guests.specs.Guests.{full_asking, next_name}
 use Rattle.lobby_guests.proofs.Attending.{players_pass, others_pass}
@@ -1101,8 +1100,8 @@ module _ {S : Type 0} (remaining contents : S → Option (List ℕ)) (site : Sit
 module _ {S : Type 0} (remaining contents : S → Option (List ℕ)) (players : List Player) (at_first : Halted) (came : Before S) where
   -- what went out is delivered, and a front of what is to go to the server is written
   gone_out : (at : ℕ) (site : Site) (former : List (Guest S)) (out : List MessageValue) (base : Traffic) (front : List ℕ) (said : Talk) (desk : Desk)
-      (wire : List ℕ) (after : Option UnderWay) (guests told : List (Guest S)) →
-      AreDelivered at said.kept.answers.items said.told.items said.replay after guests told → said.wire.items ≡ front ++ wire →
+      (wire : List ℕ) (after : Talk) (guests told : List (Guest S)) →
+      AreDelivered at said after guests told → said.wire.items ≡ front ++ wire →
       desk ≡ said.desk →
       IsAt players at_first base out (AreKept remaining contents site came former out guests) said.desk said.wire.items
       (message_values said.told.items) →
@@ -1200,7 +1199,7 @@ module _ {S : Type 0} (remaining contents : S → Option (List ℕ)) (players : 
       (kept_same remaining contents site came former out (IsLookedAfter t.between.talk.desk (is_look_time at old) at)
       (λ steps x y one was. served_looked remaining contents site came t.between.talk.desk (is_look_time at old) at steps out x y one was)
       (λ x y one. one.number) t.takes.attended t.takes.looked t.takes.looks steps kept)) attended in
-      let told = gone_out at site former out base t.hands.front t.between.talk t.hands.rest.desk t.hands.rest.wire.items t.hands.rest.replay t.between.guests.items t.hands.told t.hands.delivers
+      let told = gone_out at site former out base t.hands.front t.between.talk t.hands.rest.desk t.hands.rest.wire.items t.hands.rest t.between.guests.items t.hands.told t.hands.delivers
       (written_on contents t.hands.front t.between.server new.server t.between.talk.wire.items t.hands.rest.wire.items t.hands.tells) t.hands.desk looked in
       let none : message_values t.hands.rest.told.items ≡ [] = ap (λ (l : List Message). message_values l) t.hands.none in
       let at_settled : IsAt players at_first wrote later (Closing remaining contents site came players at_first former later settled (λ steps. Unit {0}))

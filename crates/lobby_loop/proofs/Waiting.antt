@@ -24,6 +24,19 @@ earlier_by a b next now is same =
     (subst (λ (o : Option ℕ). IfSome next (λ moment. IsSomeAnd (earlier a o) (λ n. n ≤ moment))) (sym same)
     (by_next a next))
 
+own_next : (next b : Option ℕ) → IfSome next (λ moment. IsSomeAnd (earlier next b) (λ n. n ≤ moment))
+own_next None b = tt
+own_next (Some a) None = omega arith
+own_next (Some a) (Some b) = omega arith
+
+-- Nor is it behind the first.
+pub earlier_by_first : (a b next now : Option ℕ) → now ≡ earlier a b → a ≡ next →
+    IfSome next (λ moment. IsSomeAnd now (λ n. n ≤ moment))
+earlier_by_first a b next now is same =
+    subst (λ (o : Option ℕ). IfSome next (λ moment. IsSomeAnd o (λ n. n ≤ moment))) (sym is)
+    (subst (λ (o : Option ℕ). IfSome next (λ moment. IsSomeAnd (earlier o b) (λ n. n ≤ moment))) (sym same)
+    (own_next next b))
+
 rest_by : (at : ℕ) (next most : Option ℕ) → IfSome next (λ moment. IsSomeAnd most (λ n. n ≤ moment)) →
     IfSome next (λ moment. IsSomeAnd (option_map (λ n. n - at) most) (λ n. n ≤ moment - at))
 rest_by at None most by = tt

@@ -4,6 +4,7 @@ pub mod Seating
 pub mod Roll
 pub mod Comers
 pub mod Turning
+pub mod Resting
 pub mod Doing
 pub mod Speaking
 pub mod Living

@@ -17,8 +17,8 @@ use Rattle.lobby_guests.specs.Origins.{IsPlain, IsFrom}
 use Rattle.lobby_guests.specs.Paces.{paid_by}
 use Rattle.lobby_guests.specs.Guests.{IsNewGuest, ComesFrom, AreAttended, AreDelivered, IsWritten, IsLookedAfter}
 use Rattle.lobby_guests.specs.Guests.{AreParted, has_waiting, earlier, first_due, LeavesOthers, LeavesStranger}
-use Rattle.lobby_guests.specs.Guests.{KnowsAsks, IsAnswered, has_later}
-use Rattle.lobby_talk.specs.Held.{TakesIn, HandsOn, IsKept}
+use Rattle.lobby_guests.specs.Guests.{KnowsAsks, IsAnswered, HearsNoPlayer, IsNobodyTold, has_later}
+use Rattle.lobby_talk.specs.Held.{TakesIn, HandsOn, IsKept, IsDrained, IsHandedOn}
 use Rattle.lobby_loop.specs.Seating.{AreSeatedIf}
 use Rattle.lobby_loop.specs.declared.hall.Hall.{Hall}
 use Rattle.lobby_loop.specs.declared.lobby.Turned.{Turned}
@@ -212,14 +212,13 @@ HasLong {old = old} {new = new} takes =
     IsAnswered takes.parted.desk old.rounds.asks.asker × (has_later new.rounds.asks.long ≡ true)
 
 -- What is to go is handed out at a moment: what the desk told is delivered, for which of all replays the one under way
--- goes on by at most 16 plies, or one begins; and what is to go is written, to the server and to each browser, but in a
+-- goes on by at most 16 plies, or one begins, and the answer is kept that this brings; and what is to go is written, to the server and to each browser, but in a
 -- short turn to none that acts for nobody; and the desk is told who is let go.
 pub record HandsAllOut {S : Type 0} (contents : S → Option (List ℕ)) (at : ℕ) (is_short : Bool)
     (old new : Hall S) : Type 0 where
   pub told : List (Guest S)
   pub rest : Talk
-  pub delivers : AreDelivered at old.talk.kept.answers.items old.talk.told.items old.talk.replay rest.replay
-      old.guests.items told
+  pub delivers : AreDelivered at old.talk rest old.guests.items told
   pub desk : rest.desk ≡ old.talk.desk
   pub next : rest.next ≡ old.talk.next
   pub none : rest.told.items ≡ []
@@ -233,6 +232,18 @@ pub record HandsAllOut {S : Type 0} (contents : S → Option (List ℕ)) (at : �
   pub parted_from : AreParted written new.guests.items rest new.talk
   pub site : new.site ≡ old.site
   pub door : KeepsDoor old new
+
+-- Of the server and of players nothing is heard, and nothing of them is there to be read.
+abbrev pub HearsNothing : {S : Type 0} → {remaining : S → Option (List ℕ)} → {at : ℕ} → {is_short : Bool}
+    → {old new : Hall S} → TakesAllIn remaining at is_short old new → Type 0
+HearsNothing takes = HearsNoPlayer takes.attends × IfSome takes.server_heard (λ link. IsDrained link)
+
+-- Nothing was written to any player, and nothing is left for one that could be written at once, or for the server.
+abbrev pub TellsNothing : {S : Type 0} → {contents : S → Option (List ℕ)} → {at : ℕ} → {is_short : Bool}
+    → {old new : Hall S} → HandsAllOut contents at is_short old new → Type 0
+TellsNothing {old = old} {new = new} hands =
+    IsNobodyTold hands.rest.desk hands.told hands.first old.rounds.told new.rounds.told
+    × IfSome new.server (λ link. IsHandedOn link hands.rest.wire.items)
 
 -- the next moment behind one at which there is something to do though no socket is ready, where anybody is there:
 -- somebody's next message is taken, or an act that waits since its player has paid too far ahead, or it is looked after

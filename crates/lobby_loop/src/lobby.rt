@@ -4,10 +4,12 @@ ghost use Rattle.std.specs.Prelude.{IfOk, OnOk, OnErr, ◌⊎◌};
 ghost use Rattle.mio.specs.declared.net.stream.TcpStream.{TcpStream};
 ghost use Rattle.mio.specs.declared.net.uds.stream.UnixStream.{UnixStream};
 ghost use Rattle.either.specs.declared.Either.{Either};
-ghost use Rattle.lobby_guests.specs.Guests.{HearsNoPlayer, has_later, is_crowded};
+ghost use Rattle.lobby_guests.specs.Guests.{has_later, is_crowded};
 ghost use Rattle.either.specs.Either.{either};
 ghost use Rattle.lobby_loop.specs.Turning.{BeginsHall, Comer, AreAdmitted, IsReached, IsLobbyTurn, has_more, texts_put};
 ghost use Rattle.lobby_loop.specs.Turning.{unknown, short_after, left_at, held_after, HasLong, WaitsFor};
+ghost use Rattle.lobby_loop.specs.Turning.{HearsNothing, TellsNothing};
+ghost use Rattle.lobby_loop.specs.Resting.{moment_if, call_moment, own_moment, WaitsForItself};
 ghost use Rattle.lobby_loop.specs.Living.{IsWoken, Files, KeepsFiles, Renews, Finds};
 ghost use Rattle.lobby_loop.specs.Comers.{seen, is_over};
 ghost use Rattle.lobby_loop.specs.Logging.{Logs};
@@ -123,6 +125,13 @@ fn short_after(short_until: u64, at: u64) -> u64
     } else {
         at.saturating_add(PACE)
     }
+}
+
+// A moment, where it is so.
+fn moment_if(is_so: bool, moment: u64) -> Option<u64>
+    ensures { result ≡ moment_if is_so moment }
+{
+    if is_so { Some(moment) } else { None }
 }
 
 // Watches the listener, and nothing else yet.
@@ -350,33 +359,34 @@ impl Lobby {
         }
     }
 
-    // The moment at which there is something to do beside what those who are connected wait for: the server is called,
-    // or the listener asked, or a turn is no short one.
-    fn own_moment(&self) -> Option<u64> {
-        let call = if self.hall.has_server() {
+    // The moment at which the server is called again where it is not there, or the call given up that is made.
+    fn call_moment(&self) -> Option<u64>
+        ensures { result ≡ call_moment self.now }
+    {
+        if self.hall.has_server() {
             None
         } else if self.call.is_some() {
             Some(self.call_until)
         } else {
             Some(self.call_at)
-        };
-        let ask = if self.has_more {
-            Some(self.ask_at.max(self.short_until))
-        } else {
-            None
-        };
-        let others = if self.hall.has_others() {
-            Some(self.short_until)
-        } else {
-            None
-        };
-        earlier(earlier(call, ask), others)
+        }
+    }
+
+    // The moment at which there is something to do beside what those who are connected wait for: the server is called,
+    // or the listener asked, or a turn is no short one.
+    fn own_moment(&self) -> Option<u64>
+        ensures { result ≡ own_moment self.now }
+    {
+        let ask = moment_if(self.has_more, self.ask_at.max(self.short_until));
+        let others = moment_if(self.hall.has_others(), self.short_until);
+        earlier(earlier(self.call_moment(), ask), others)
     }
 
     // What came of a turn in which there was something to do, or nothing.
     fn turned(&self, has_worked: bool, at: u64) -> Turned
         ensures worked { has_worked ≡ true → result ≡ Worked }
         ensures idle { WaitsFor at self.now.hall result }
+        ensures own { WaitsForItself at self.now result }
     {
         if has_worked {
             Turned::Worked
@@ -401,13 +411,14 @@ impl Lobby {
             × Logs (L.logged log.old) (L.logged log.new) (texts_put turn.turns)
             × IsToldLast (halted turn.turns.between.talk.desk.halts) (K.last_halts links.new)
             × (HasLong turn.turns.takes → turned ≡ Worked)
-            × ((turned ≡ Worked) ⊎ HearsNoPlayer turn.turns.takes.attends)) }
+            × ((turned ≡ Worked) ⊎ HearsNothing turn.turns.takes × TellsNothing turn.turns.hands)) }
         ensures short { OnOk result (self.new.short_until ≡ short_after self.old.short_until at) }
         ensures held { OnOk result (self.new.held_until
             ≡ held_after self.old.held_until (is_crowded self.old.hall.guests.items) at) }
         ensures more { IfOk result (λ turned. has_more self.new.hall ≡ true → turned ≡ Worked) }
         ensures brief { IfOk result (λ turned. has_later self.new.hall.rounds.asks.brief ≡ true → turned ≡ Worked) }
         ensures idle { IfOk result (λ turned. WaitsFor at self.new.hall turned) }
+        ensures own { IfOk result (λ turned. WaitsForItself at self.new turned) }
     {
         self.hold(at);
         let has_reached = self.reach_server(net, at)?;

@@ -1,5 +1,5 @@
 -- What the connection to the server holds, and bytes that go to it.
-use Rattle.std.specs.Prelude.{ℕ, ◌≡◌, false, List, ◌++◌, Option}
+use Rattle.std.specs.Prelude.{ℕ, ◌≡◌, true, false, List, ◌++◌, length, Option}
 use Rattle.std.specs.Io.KnownBytes.{Consumes, Appends}
 use Rattle.text_lines.specs.Lines.{HasNoFeed}
 use Rattle.lobby_talk.specs.declared.talk.Talk.{Talk}
@@ -14,6 +14,14 @@ HoldsNoLine link = link.is_lost ≡ false → HasNoFeed link.held.items
 pub record IsKept {S : Type 0} (old new : Link S) : Type 0 where
   pub held : new.held ≡ old.held
   pub lost : new.is_lost ≡ false → old.is_lost ≡ false
+
+-- Nothing is there to be read of a connection that goes on.
+abbrev pub IsDrained : {S : Type 0} → Link S → Type 0
+IsDrained link = link.is_lost ≡ false → link.can_read ≡ false
+
+-- Nothing is to go by a connection that goes on and takes bytes.
+abbrev pub IsHandedOn : {S : Type 0} → Link S → List ℕ → Type 0
+IsHandedOn link wire = link.is_lost ≡ false → link.can_write ≡ true → length wire ≡ 0
 
 -- Bytes came of the server, and the desk is told the lines in front of all that came and was not told.
 pub record TakesIn {S : Type 0} (remaining : S → Option (List ℕ)) (old new : Link S) (talk after : Talk) : Type 0 where

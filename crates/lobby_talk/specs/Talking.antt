@@ -24,13 +24,16 @@ pub record IsTalkAsBefore (old new : Talk) : Type 0 where
   pub told : new.told ≡ old.told
   pub next : new.next ≡ old.next
 
--- A desk that begins, with this halted and announced: nothing was said, nothing is to go, and no number was given.
+-- A desk that begins, with this halted and announced: nothing was said, nothing is to go, and no number was given; no
+-- answer is kept, and none is made.
 pub record Begins (players : List Player) (at_first : Halted) (now : Talk) : Type 0 where
   pub desk : BeginsDesk at_first now.desk
   pub players_are : now.desk.players.items ≡ players
   pub wire : now.wire.items ≡ []
   pub told : now.told.items ≡ []
   pub next : now.next ≡ 0
+  pub kept : now.kept.answers.items ≡ []
+  pub replay : now.replay ≡ None
 
 -- whether a connection of this number acts for a player
 abbrev pub acts_at : Desk → Option ℕ → Bool

@@ -71,7 +71,9 @@ fn put(answers: &mut Vec<KeptAnswer>, one: KeptAnswer) -> Result<(), AllocError>
 
 impl KeptAnswers {
     /// None was made.
-    pub fn new(alloc: Global) -> KeptAnswers {
+    pub fn new(alloc: Global) -> KeptAnswers
+        ensures { result.answers.items ≡ [] }
+    {
         KeptAnswers {
             alloc,
             answers: Vec::new(alloc),

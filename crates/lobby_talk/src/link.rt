@@ -1,7 +1,7 @@
 //! The one connection to the server: bytes to it, and lines from it.
-ghost use Rattle.std.specs.Prelude.{ℕ, List, ◌≡◌, ◌++◌, [], OnOk};
+ghost use Rattle.std.specs.Prelude.{ℕ, List, ◌≡◌, ◌++◌, [], false, OnOk, IfOk};
 ghost use Rattle.std.specs.Io.KnownBytes.{Consumes};
-ghost use Rattle.lobby_talk.specs.Held.{IsKept, TakesIn, HandsOn};
+ghost use Rattle.lobby_talk.specs.Held.{IsKept, TakesIn, HandsOn, IsDrained, IsHandedOn};
 
 use crate::lines::hear_lines;
 use crate::pieces::{Gone, PIECE_ROOM, write_piece};
@@ -63,9 +63,10 @@ impl<S> Link<S> {
 impl<S: Read + Write> Link<S> {
     // Reads a piece behind what is held.
     fn read_more(&mut self, piece: &mut [u8; PIECE_ROOM]) -> Result<bool, AllocError>
-        ensures { OnOk result ((taken : List ℕ) × Consumes (S.remaining self.old.stream)
+        ensures reads { OnOk result ((taken : List ℕ) × Consumes (S.remaining self.old.stream)
             (S.remaining self.new.stream) taken
             × (self.new.held.items ≡ self.old.held.items ++ taken)) }
+        ensures none { IfOk result (λ any. any ≡ false → self.new.can_read ≡ false) }
     {
         match read_piece(&mut self.stream, piece) {
             Came::Nothing => {
@@ -90,7 +91,8 @@ impl<S: Read + Write> Link<S> {
         talk: &mut Talk,
         piece: &mut [u8; PIECE_ROOM],
     ) -> Result<bool, AllocError>
-        ensures { OnOk result (TakesIn S.remaining self.old self.new talk.old talk.new) }
+        ensures takes { OnOk result (TakesIn S.remaining self.old self.new talk.old talk.new) }
+        ensures none { IfOk result (λ any. any ≡ false → IsDrained self.new) }
     {
         if !self.can_read || self.is_lost {
             return Ok(false);
@@ -109,6 +111,7 @@ impl<S: Read + Write> Link<S> {
         ensures hands { (front : List ℕ) × HandsOn front (S.contents self.old.stream)
             (S.contents self.new.stream) wire.old.items wire.new.items }
         ensures kept { IsKept self.old self.new }
+        ensures none { result ≡ false → IsHandedOn self.new wire.new.items }
     {
         if !self.can_write || self.is_lost || wire.is_empty() {
             return false;

@@ -1,11 +1,13 @@
 -- One browser more.
-use Rattle.std.proofs.Common.{ℕ, ◌<◌, ◌∙◌, List, length, refl, ap, subst, sym, arith}
+use Rattle.std.proofs.Common.{ℕ, ◌<◌, ◌∙◌, List, length, get_or, refl, ap, subst, sym, arith}
 use Rattle.std.proofs.lemmas.List.{with_items_is}
 use Rattle.std.specs.Vec.{with_items}
 use Rattle.lobby_guests.specs.declared.guest.Guest.{Guest}
 use Rattle.lobby_guests.specs.declared.rounds.Asks.{Asks}
 use Rattle.lobby_guests.specs.declared.rounds.Round.{Round}
-use Rattle.lobby_guests.specs.Guests.{InTurn, IsPlayersTurn, Asking, full_asking, begun_asks, next_name, over}
+use Rattle.lobby_talk.specs.declared.talk.Talk.{Talk}
+use Rattle.lobby_talk.proofs.Each.{zipped_none, zipped_further, zipped_vec}
+use Rattle.lobby_guests.specs.Guests.{InTurn, IsPlayersTurn, IsPlayerDrained, Asking, full_asking, begun_asks, next_name, over}
 use Rattle.lobby_guests.specs.Rounds.{room_of}
 use Rattle.lobby_guests.proofs.Attending.{or_left, or_right}
 use Rattle.lobby_guests.proofs.EachGuest.{IsTurnedTo, turned_none, turned_further, turned_all}
@@ -23,6 +25,8 @@ loop-guest-init g c =
           (turned_none does c.args.guests.now.items c.deref_mut-guest-items.result.now begun
           c.deref_mut-guest-items.ensures.value),
       λ none. refl,
+      λ none. zipped_none (IsPlayerDrained c.args.talk.now.desk c.args.at) c.args.guests.now.items
+          c.deref_mut-guest-items.result.now c.deref_mut-guest-items.ensures.value,
     )
 
 pub loop-guest-preserved : goal.loop-guest-preserved
@@ -36,10 +40,22 @@ loop-guest-preserved g c =
           (room_of c.loop-guest.talk c.loop-guest.asks) (room_of c.attend_player.new.talk c.attend_player.new.asks) lt
           c.loop-guest.invariant.0 c.in_ok-any.ensures.turned,
       λ none. c.in_ok-any.ensures.silent (or_right _ _ none) ∙ c.loop-guest.invariant.1 (or_left _ _ none),
+      λ none. zipped_further (IsPlayerDrained c.args.talk.now.desk c.args.at) c.args.guests.now.items items
+          c.loop-guest.guest-index c.guest-item.result c.attend_player.new.guest lt
+          (c.loop-guest.invariant.2 (or_left _ _ none))
+          (subst (λ (t : Talk). IsPlayerDrained t.desk c.args.at (get_or items c.loop-guest.guest-index c.guest-item.result)
+          c.attend_player.new.guest)
+          (c.loop-guest.invariant.1 (or_left _ _ none)) (c.in_ok-any.ensures.drained (or_right _ _ none))),
     )
 
 pub returns-clause-silent : goal.returns-clause-silent
 returns-clause-silent g c = λ none. c.loop-guest.invariant.1 (or_left _ _ (or_left _ _ none))
+
+pub returns-clause-drained : goal.returns-clause-drained
+returns-clause-drained g c = λ none.
+    zipped_vec (IsPlayerDrained c.args.talk.now.desk c.args.at) c.args.guests.now c.loop-guest.guest-items
+    c.loop-guest.guest-index (omega (arith, c.loop-guest-test.false, c.loop-guest.auto.guest-items))
+    (c.loop-guest.invariant.2 (or_left _ _ (or_left _ _ none)))
 
 pub returns-clause-turned : goal.returns-clause-turned
 returns-clause-turned g c =

@@ -1,9 +1,10 @@
 -- It is read for first, and then heard, or what stands in front waits.
-use Rattle.std.proofs.Common.{◌∙◌, Bool, true, false, inl, inr, refl, ap, subst}
+use Rattle.std.proofs.Common.{◌∙◌, Bool, true, false, inl, inr, refl, ap, sym, subst}
+use Rattle.lobby_guests.specs.declared.guest.Guest.{Guest}
 use Rattle.lobby_guests.specs.declared.rounds.Asks.{Asks}
-use Rattle.lobby_guests.specs.Guests.{IsHeardNow, IsPaced, IsPlayerHeard}
+use Rattle.lobby_guests.specs.Guests.{IsDrained, IsHeardNow, IsPaced, IsPlayerHeard}
 use Rattle.lobby_guests.specs.Rounds.{room_of, IsToAsk}
-use Rattle.lobby_guests.proofs.Attending.{or_right}
+use Rattle.lobby_guests.proofs.Attending.{or_left, or_right}
 use Rattle.lobby_guests.proofs.guests.serve_player.Goals as goal
 
 pub returns-then-not-is_asked-clause-served : goal.returns-then-not-is_asked-clause-served
@@ -28,6 +29,17 @@ returns-then-not-is_asked-clause-served g c =
       pays = c.read_in-has_read.ensures.paid;
       hears = hears;
     }
+
+pub returns-then-not-is_asked-clause-drained : goal.returns-then-not-is_asked-clause-drained
+returns-then-not-is_asked-clause-drained g c = λ none. c.read_in-has_read.ensures.none none refl
+
+pub returns-clause-drained : goal.returns-clause-drained
+returns-clause-drained g c = λ none.
+    let drained = c.read_in-has_read.ensures.none (or_left _ _ none) refl in
+    elim (c.in_ok-has_heard.ensures.read (or_right _ _ none)) [
+      | inl same ↦ subst (λ (guest : Guest g.row.S.Denot). IsDrained guest) (sym same) drained
+      | inr read ↦ λ stays wants. read
+    ]
 
 pub returns-clause-silent : goal.returns-clause-silent
 returns-clause-silent g c = λ none. c.in_ok-has_heard.ensures.silent (or_right _ _ none)

@@ -24,5 +24,5 @@ returns-clause-turned g c =
       turned.3,
       λ long. c.turned.ensures.worked (ap (λ (b : Bool). c.in_ok-has_reached.has_reached || b) (turned.4 long) ∙ or_true c.in_ok-has_reached.has_reached),
       by_work c.in_ok-has_turned.has_turned (λ is. c.turned.ensures.worked (ap (λ (b : Bool). c.in_ok-has_reached.has_reached || b) is ∙ or_true c.in_ok-has_reached.has_reached))
-          turned.5,
+          (λ none. (turned.5 none, turned.6 none)),
     )
