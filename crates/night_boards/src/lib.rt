@@ -26,7 +26,7 @@ pub use files::{Paired, check_notes, paired_of, pairings_of};
 pub use lobby::LobbyLink;
 pub use round_file::RoundFile;
 pub use said::take_words;
-pub use seating::{RoundText, seat, with_row};
+pub use seating::seat;
 pub use start_word::start;
 pub use table::{Shown, Table, show_game};
 pub use token::token_of;

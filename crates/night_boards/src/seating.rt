@@ -21,17 +21,17 @@ use std::rt::Files;
 // The row above the pairings.
 const HEADER: &str = "board,white,black,times,start\n";
 
-/// The text of a round's pairings, and the pairings.
+// The text of a round's pairings, and the pairings.
 #[derive(Drop)]
-pub struct RoundText {
-    pub text: String,
-    pub pairings: Vec<Pairing>,
+struct RoundText {
+    text: String,
+    pairings: Vec<Pairing>,
 }
 
-/// The text of a round's pairings with a row more, behind those that stand there byte by byte; the header is first
-/// where there was none. It fails where that is no round: as where the row is none, or its board or one of its players
-/// stands there.
-pub fn with_row(alloc: Global, text: &str, row: &str) -> Result<RoundText>
+// The text of a round's pairings with a row more, behind those that stand there byte by byte; the header is first where
+// there was none. It fails where that is no round: as where the row is none, or its board or one of its players stands
+// there.
+fn with_row(alloc: Global, text: &str, row: &str) -> Result<RoundText>
     ensures text { IfOk result (λ new. string_bytes new.text ≡ rows.with_row text.now row.now) }
     ensures round { IfOk result (λ new. IsRoundOf (string_bytes new.text) new.pairings.items) }
 {
