@@ -4,7 +4,7 @@
 //! Modules: `start_word` goes round the boards, `asked` has what is asked of it; `files` reads pairings and notes,
 //! `checks` has what is asked of pairings first, `round_file` puts notes, `said` those of what the arbiter said,
 //! `token` reads an arbiter's token, `lobby` is the connection to the lobby, `table` what is told of the table, `board`
-//! the way of one board to its game.
+//! the way of one board to its game, `seating` puts a board that an arbiter has paired to the files of its round.
 #![tactic(auto)]
 
 mod asked;
@@ -14,17 +14,19 @@ mod files;
 mod lobby;
 mod round_file;
 mod said;
+mod seating;
 mod start_word;
 mod table;
 mod token;
 
-pub use asked::{Round, Said, Starting};
+pub use asked::{Round, Said, Seating, Starting};
 pub use board::{Became, Board, boards_of};
 pub use checks::{check_players, check_times};
 pub use files::{Paired, check_notes, paired_of, pairings_of};
 pub use lobby::LobbyLink;
 pub use round_file::RoundFile;
 pub use said::take_words;
+pub use seating::seat;
 pub use start_word::start;
 pub use table::{Shown, Table, show_game};
 pub use token::token_of;
