@@ -1,4 +1,8 @@
 //! The files that are only read.
+ghost use Rattle.std.specs.Prelude.{◌≡◌, IfOk};
+ghost use Rattle.std.specs.String.{string_bytes};
+ghost use Rattle.night_boards.specs.Told as spec;
+
 use anyhow::{Context, Result, bail};
 use lobby_players::check_short;
 use night_files::{cut_lines, end_last_line, tell_left_out, torn_fault};
@@ -92,24 +96,45 @@ pub fn paired_of<R: Files + AllocGlobal + Eprint>(
         pairings: pairings_of(rt, pairings)?,
         notes: notes_of(rt, games)?,
     };
-    check_notes(games, paired.notes.as_slice(), paired.pairings.as_slice())?;
+    check_notes(
+        rt.alloc(),
+        games,
+        paired.notes.as_slice(),
+        paired.pairings.as_slice(),
+    )?;
     Ok(paired)
 }
 
+/// Who plays at a board, as it is told: White against Black, and of a bye, of which Black is empty, whose it is.
+pub fn sides_text(alloc: Global, white: &str, black: &str) -> Result<String, AllocError>
+    ensures { IfOk result (λ text. string_bytes text ≡ spec.sides_text white.now black.now) }
+{
+    let mut text = String::new(alloc);
+    if black.is_empty() {
+        text.push_str("the bye of ")?;
+        text.push_str(white)?;
+    } else {
+        text.push_str(white)?;
+        text.push_str(" against ")?;
+        text.push_str(black)?;
+    }
+    Ok(text)
+}
+
 // Whether a note is of a board of these pairings, with its players. It fails where it is not.
-fn check_note(file: &str, note: &Note, pairings: &[Pairing]) -> Result<()> {
+fn check_note(alloc: Global, file: &str, note: &Note, pairings: &[Pairing]) -> Result<()> {
     if pairings.iter().any(|pairing| is_of(note, pairing)) {
         return Ok(());
     }
     let board = note.board;
-    let (white, black) = (note.white.as_str(), note.black.as_str());
-    bail!("{file} is of other pairings: it has {white} against {black} at board {board}")
+    let sides = sides_text(alloc, note.white.as_str(), note.black.as_str())?;
+    bail!("{file} is of other pairings: it has {sides} at board {board}")
 }
 
 /// Whether each note is of a board of these pairings, with its players. It fails at the first that is not.
-pub fn check_notes(file: &str, notes: &[Note], pairings: &[Pairing]) -> Result<()> {
+pub fn check_notes(alloc: Global, file: &str, notes: &[Note], pairings: &[Pairing]) -> Result<()> {
     for note in notes {
-        check_note(file, note, pairings)?;
+        check_note(alloc, file, note, pairings)?;
     }
     Ok(())
 }

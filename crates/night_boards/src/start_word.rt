@@ -314,30 +314,22 @@ fn check_pairings<R: Files + AllocGlobal>(
     check_times(pairings).context(rows)
 }
 
-// Puts what the arbiter said to the round's file. It fails where that is of other pairings.
-fn take_said(
-    file: &mut RoundFile,
-    starting: &Starting<'_>,
-    pairings: &[Pairing],
-    boards: &[Board],
-) -> Result<()> {
-    check_notes(starting.round.games, file.notes(), pairings)?;
-    let (takes, afters) = (
-        starting.said.takes.as_slice(),
-        starting.said.afters.as_slice(),
-    );
-    take_words(file, boards, takes, afters)
-}
-
-// The round's file with what the arbiter said.
+// The round's file with what the arbiter said. It fails where that is of other pairings.
 fn file_of<R: Files<File = File> + AllocGlobal + Eprint>(
     rt: &R,
     starting: &Starting<'_>,
     pairings: &[Pairing],
     boards: &[Board],
 ) -> Result<RoundFile> {
-    let mut file = RoundFile::open(rt, starting.round.games)?;
-    take_said(&mut file, starting, pairings, boards)?;
+    let (games, said) = (starting.round.games, &starting.said);
+    let mut file = RoundFile::open(rt, games)?;
+    check_notes(rt.alloc(), games, file.notes(), pairings)?;
+    take_words(
+        &mut file,
+        boards,
+        said.takes.as_slice(),
+        said.afters.as_slice(),
+    )?;
     Ok(file)
 }
 

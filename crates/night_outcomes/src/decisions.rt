@@ -1,6 +1,7 @@
 //! The file of a round's decisions.
 use anyhow::{Context, Result, bail};
 use lobby_players::check_short;
+use night_boards::sides_text;
 use night_files::{
     AppendedFile, DiskFile, RecordFile, TornFile, cut_lines, is_whole, tell_left_out, torn_fault,
 };
@@ -37,7 +38,7 @@ pub fn check_verdict(pairing: &Pairing, verdict: Verdict) -> Result<()> {
 }
 
 // It fails where a decision is about no board of these pairings, or one that can have no such verdict.
-fn check_decision(decision: &Decision, pairings: &[Pairing]) -> Result<()> {
+fn check_decision(alloc: Global, decision: &Decision, pairings: &[Pairing]) -> Result<()> {
     let board = decision.board;
     let (white, black) = (
         decision.players.white.as_str(),
@@ -49,7 +50,8 @@ fn check_decision(decision: &Decision, pairings: &[Pairing]) -> Result<()> {
             return check_verdict(pairing, decision.verdict);
         }
     }
-    bail!("it is of other pairings: it has {white} against {black} at board {board}")
+    let sides = sides_text(alloc, white, black)?;
+    bail!("it is of other pairings: it has {sides} at board {board}")
 }
 
 // The decision of the line of this number, from 1 on.
@@ -57,7 +59,7 @@ fn decision_in(alloc: Global, number: usize, line: &str, pairings: &[Pairing]) -
     let Some(decision) = decision_of(alloc, line)? else {
         bail!("line {number} is no decision: {line:?}");
     };
-    check_decision(&decision, pairings)?;
+    check_decision(alloc, &decision, pairings)?;
     Ok(decision)
 }
 
