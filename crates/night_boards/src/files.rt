@@ -1,12 +1,14 @@
 //! The files that are only read.
 ghost use Rattle.std.specs.Prelude.{◌≡◌, IfOk};
 ghost use Rattle.std.specs.String.{string_bytes};
+ghost use Rattle.night_rounds.specs.Notes as notes_spec;
 ghost use Rattle.night_boards.specs.Told as spec;
+ghost use Rattle.night_boards.specs.Waits as waits;
 
 use anyhow::{Context, Result, bail};
 use lobby_players::check_short;
 use night_files::{cut_lines, end_last_line, tell_left_out, torn_fault};
-use night_rounds::{Against, Note, Pairing, note_of, read};
+use night_rounds::{Against, Note, Pairing, game_in, last_of, note_of, read};
 use std::alloc::{AllocError, Global};
 use std::fs;
 use std::rt::Files;
@@ -77,6 +79,16 @@ fn notes_of<R: Files + AllocGlobal + Eprint>(rt: &R, file: &str) -> Result<Vec<N
     let notes = notes_in(rt.alloc(), file, bytes.as_slice())?;
     tell_left_out(rt, file, bytes.as_slice());
     Ok(notes)
+}
+
+/// The game of a board, where it was opened and noted.
+pub fn noted_game(notes: &[Note], board: u32) -> Option<u32>
+    ensures { result ≡ waits.noted_game (notes_spec.last_of board notes.now) }
+{
+    match last_of(notes, board) {
+        Some(note) => game_in(&note.stage),
+        None => None,
+    }
 }
 
 /// A round: who is paired, and what was noted.

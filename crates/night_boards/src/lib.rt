@@ -4,7 +4,8 @@
 //! Modules: `start_word` goes round the boards, `asked` has what is asked of it; `files` reads pairings and notes,
 //! `checks` has what is asked of pairings first, `round_file` puts notes, `said` those of what the arbiter said,
 //! `token` reads an arbiter's token, `lobby` is the connection to the lobby, `table` what is told of the table, `board`
-//! the way of one board to its game. `specs/Told` says how it is told who plays at a board.
+//! the way of one board to its game. `specs/Told` says how it is told who plays at a board, and
+//! `specs/Waits` which board waits for its start.
 #![tactic(auto)]
 
 mod asked;
@@ -21,7 +22,7 @@ mod token;
 pub use asked::{Round, Said, Starting};
 pub use board::{Became, Board, boards_of};
 pub use checks::{check_players, check_times};
-pub use files::{Paired, check_notes, paired_of, pairings_of, sides_text};
+pub use files::{Paired, check_notes, noted_game, paired_of, pairings_of, sides_text};
 pub use lobby::LobbyLink;
 pub use round_file::RoundFile;
 pub use said::take_words;

@@ -1,8 +1,12 @@
 //! The word that opens the games of a round.
+ghost use Rattle.std.specs.Prelude.{◌≡◌};
+ghost use Rattle.night_rounds.specs.Notes as notes_spec;
+ghost use Rattle.night_boards.specs.Waits as spec;
+
 use crate::asked::Starting;
 use crate::board::{Became, Board, boards_of};
 use crate::checks::{check_players, check_times};
-use crate::files::{check_notes, pairings_of};
+use crate::files::{check_notes, noted_game, pairings_of};
 use crate::lobby::LobbyLink;
 use crate::round_file::RoundFile;
 use crate::said::take_words;
@@ -11,7 +15,7 @@ use anyhow::{Context, Error, Result};
 use command_lines::{tell, unix_time};
 use jiff::Timestamp;
 use lobby_players::players_of;
-use night_rounds::{Against, Pairing};
+use night_rounds::{Against, Note, Pairing};
 use std::alloc::Global;
 use std::fs::File;
 use std::net::{Net, SocketAddr, TcpStream};
@@ -53,6 +57,16 @@ fn moment<R: Clock>(rt: &R) -> Result<i64> {
     }
 }
 
+// Whether a board waits for its start: it has no game by its notes, and its start lies ahead.
+fn waits(notes: &[Note], board: u32, start: Option<i64>, now: i64) -> bool
+    ensures { result ≡ spec.waits (spec.noted_game (notes_spec.last_of board notes.now)) start now }
+{
+    match start {
+        Some(start) => noted_game(notes, board).is_none() && now < start,
+        None => false,
+    }
+}
+
 impl<'a> Rounds<'a> {
     // Whether it cannot go on.
     fn has_failed(&self) -> bool {
@@ -90,11 +104,9 @@ impl<'a> Rounds<'a> {
     // Whether nothing is to be done about a board now.
     fn rests(&self, board: &Board, now: i64) -> bool {
         let number = board.pairing.board;
-        let is_late = match board.game.start {
-            Some(start) => start <= now,
-            None => true,
-        };
-        !is_late || self.asks.contains(&number) || self.done.contains(&number)
+        waits(self.file.notes(), number, board.game.start, now)
+            || self.asks.contains(&number)
+            || self.done.contains(&number)
     }
 
     // Connects to the lobby as the arbiter. Where the token is no arbiter's, it cannot go on.
@@ -242,14 +254,13 @@ fn tell_wait<R: Eprint>(rt: &R, number: u32, start: i64) -> Result<()> {
 }
 
 // Tells which boards wait for their starts.
-fn tell_waits<R: Eprint + Clock>(rt: &R, boards: &[Board]) -> Result<()> {
+fn tell_waits<R: Eprint + Clock>(rt: &R, notes: &[Note], boards: &[Board]) -> Result<()> {
     // (that the clock is wrong is told later, each time that it is tried)
     let now = moment(rt).unwrap_or(i64::MAX);
     for board in boards {
-        if let Some(start) = board.game.start
-            && start > now
-        {
-            tell_wait(rt, board.pairing.board, start)?;
+        let (number, start) = (board.pairing.board, board.game.start);
+        if waits(notes, number, start, now) {
+            tell_wait(rt, number, start.unwrap_or(now))?;
         }
     }
     Ok(())
@@ -350,7 +361,7 @@ fn go_through<R>(rt: &R, rounds: &mut Rounds<'_>, boards: &[Board]) -> Result<us
 where
     R: Net<Stream = TcpStream> + RandomSource + AllocGlobal + Clock + Clone + Drop + Print + Eprint,
 {
-    tell_waits(rt, boards)?;
+    tell_waits(rt, rounds.file.notes(), boards)?;
     go_round(rt, rounds, boards)?;
     Ok(rounds.done.len())
 }

@@ -24,5 +24,5 @@ pub use decisions::decisions_of;
 pub use entrants::{entrants_of, shown_names};
 pub use laws::{FoundOut, Law};
 pub use meetings::{Met, met_in};
-pub use outcomes::{check_fault, noted_game};
+pub use outcomes::check_fault;
 pub use results_word::{players_in, write_results};

@@ -7,11 +7,10 @@ use anyhow::{Result, bail};
 use command_lines::tell;
 use lobby_players::full_name;
 use lobby_words::Player;
+use night_boards::noted_game;
 use night_links::{Answer, Link, refused};
 use night_report::Bye;
-use night_rounds::{
-    Against, Decision, Note, Pairing, Verdict, decision_about, game_in, last_of, verdict_text,
-};
+use night_rounds::{Against, Decision, Note, Pairing, Verdict, decision_about, verdict_text};
 use player_name::Name;
 use server_answers::{Refusal, Seats, Shown, refusal_of, result_text, shown_of};
 use sockets::ServerAddress;
@@ -108,14 +107,6 @@ fn going_on(ended: &Ended) -> &'static str {
         "its game goes on"
     } else {
         ""
-    }
-}
-
-/// The game of a board, where it was opened and noted.
-pub fn noted_game(notes: &[Note], board: u32) -> Option<u32> {
-    match last_of(notes, board) {
-        Some(note) => game_in(&note.stage),
-        None => None,
     }
 }
 
