@@ -27,12 +27,24 @@ const BEGINNING: &[u8] = b"{\"board\":";
 // More than the line of the longest note has.
 const MOST_BEHIND: usize = 8192;
 
-// Fails where what stands behind so many lines may not be cut off.
-fn check_behind(lines: usize, behind: &[u8]) -> Result<()> {
-    match torn_fault(BEGINNING, MOST_BEHIND, behind) {
-        Some(fault) => bail!("behind line {lines}: {fault}"),
-        None => Ok(()),
+/// The lines in a file's bytes. It fails where what stands behind them may not be cut off: where it is no torn line,
+/// which begins so and has so many bytes at most.
+pub fn lines_in<'a>(
+    alloc: Global,
+    bytes: &'a [u8],
+    beginning: &[u8],
+    most: usize,
+) -> Result<Vec<&'a str>> {
+    let (whole, behind) = cut_lines(bytes);
+    let text = str::from_utf8(whole).ok().context("it is not in UTF-8")?;
+    let lines = parts(alloc, text, '\n')?;
+    if !behind.is_empty()
+        && let Some(fault) = torn_fault(beginning, most, behind)
+    {
+        let count = lines.len();
+        bail!("behind line {count}: {fault}");
     }
+    Ok(lines)
 }
 
 // The note of the line of this number, from 1 on.
@@ -41,15 +53,6 @@ fn note_in(alloc: Global, number: usize, line: &str) -> Result<Note> {
         Some(note) => Ok(note),
         None => bail!("line {number} is no note: {line:?}"),
     }
-}
-
-fn notes_of_lines(alloc: Global, lines: &[&str]) -> Result<Vec<Note>> {
-    let mut notes = Vec::new(alloc);
-    for line in lines {
-        let number = notes.len().saturating_add(1);
-        notes.push(note_in(alloc, number, line)?)?;
-    }
-    Ok(notes)
 }
 
 /// Ends the last line of a round's bytes where it lacks only its line feed, and answers whether it did.
@@ -64,11 +67,13 @@ pub fn notes_in(alloc: Global, file: &str, bytes: &[u8]) -> Result<Vec<Note>> {
 }
 
 fn notes_of_bytes(alloc: Global, bytes: &[u8]) -> Result<Vec<Note>> {
-    let (whole, behind) = cut_lines(bytes);
-    let text = str::from_utf8(whole).ok().context("it is not in UTF-8")?;
-    let lines = parts(alloc, text, '\n')?;
-    check_behind(lines.len(), behind)?;
-    notes_of_lines(alloc, lines.as_slice())
+    let lines = lines_in(alloc, bytes, BEGINNING, MOST_BEHIND)?;
+    let mut notes = Vec::new(alloc);
+    for line in lines.as_slice() {
+        let number = notes.len().saturating_add(1);
+        notes.push(note_in(alloc, number, line)?)?;
+    }
+    Ok(notes)
 }
 
 // The notes of a round's file, whose last line may lack its line feed. What stands behind its lines is left out, and
@@ -133,13 +138,24 @@ pub fn sides_text(alloc: Global, white: &str, black: &str) -> Result<String, All
     Ok(text)
 }
 
+/// The name of who has Black, empty where that is nobody.
+pub fn black_name(against: &Against) -> &str {
+    match against {
+        Against::Bye(_) => "",
+        Against::Game(game) => game.black.as_str(),
+    }
+}
+
 // Whether a note is of a board of these pairings, with its players. It fails where it is not.
 fn check_note(alloc: Global, file: &str, note: &Note, pairings: &[Pairing]) -> Result<()> {
-    if pairings.iter().any(|pairing| is_of(note, pairing)) {
-        return Ok(());
+    let (board, white, black) = (note.board, note.white.as_str(), note.black.as_str());
+    for pairing in pairings {
+        let (first, second) = (pairing.white.as_str(), black_name(&pairing.against));
+        if pairing.board == board && first == white && second == black {
+            return Ok(());
+        }
     }
-    let board = note.board;
-    let sides = sides_text(alloc, note.white.as_str(), note.black.as_str())?;
+    let sides = sides_text(alloc, white, black)?;
     bail!("{file} is of other pairings: it has {sides} at board {board}")
 }
 
@@ -149,16 +165,4 @@ pub fn check_notes(alloc: Global, file: &str, notes: &[Note], pairings: &[Pairin
         check_note(alloc, file, note, pairings)?;
     }
     Ok(())
-}
-
-// Whether a note is of a pairing.
-fn is_of(note: &Note, pairing: &Pairing) -> bool {
-    match pairing.against {
-        Against::Bye(_) => false,
-        Against::Game(game) => {
-            note.board == pairing.board
-                && note.white.as_str() == pairing.white.as_str()
-                && note.black.as_str() == game.black.as_str()
-        }
-    }
 }

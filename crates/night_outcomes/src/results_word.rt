@@ -1,11 +1,10 @@
 //! The word that writes the results of a round.
 use crate::asked::Asking;
-use crate::decisions::{black_name, decisions_of};
 use crate::outcomes::{Boards, Outcomes, Told, check_fault};
 use anyhow::Result;
 use lobby_players::players_of;
 use lobby_words::Player;
-use night_boards::{Paired, noted_game, paired_of};
+use night_boards::{Paired, black_name, decisions_of, noted_game, paired_of};
 use night_report::Bye;
 use night_rounds::{Against, Decision, Note, Outcome, Pairing, results};
 use std::alloc::{AllocError, Global};
