@@ -92,8 +92,8 @@ are ranked as by standings. Asked for results are the archive, where --archive n
 then the server, where --server does; the last decision of an arbiter about a board counts in
 their place. Without --rounds it has the players alone, for a program that pairs round 1. Where a
 game is of others than its board's players it writes nothing, and ends with status 1; where a
-board has no result yet, a line of the archive is no game's or the server is away, that status is
-behind the report.
+board has no result yet, a game counts for two boards, a line of the archive is no game's or the
+server is away, that status is behind the report.
 
 Exit status: 0; 1 with what is wrong on standard error; 2 for words that the program does
 not know.

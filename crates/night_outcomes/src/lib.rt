@@ -4,7 +4,8 @@
 //! Modules: `asked` has what is asked, `archived` reads the archive's games, `tags` the tags of a PGN, `outcomes` finds
 //! what came of a game by these or by the table, `laws` what the Laws say of that, `decisions` writes the decisions
 //! of arbiters, `entrants` has the players of a tournament, `meetings` what was met in its rounds,
-//! `results_word` and `decide_word` do the words.
+//! `results_word` and `decide_word` do the words. `specs/Doubles` says which board a game counts for
+//! already.
 #![tactic(auto)]
 
 mod archived;

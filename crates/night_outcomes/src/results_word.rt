@@ -165,8 +165,8 @@ where
     write_round(rt, asking, players, &paired, decisions.as_slice())
 }
 
-/// Writes the results of a round as CSV. It fails behind that where a board's game is of others than its players, or
-/// was played on as another, where a line of the archive was left out, or the server is away.
+/// Writes the results of a round as CSV. It fails behind that where a board's game is of others than its players, was
+/// played on as another or counts for two, where a line of the archive was left out, or the server is away.
 pub fn write_results<R>(rt: &R, asking: &Asking<'_>) -> Result<()>
 where
     R: Files + Net<Stream = TcpStream> + AllocGlobal + Print + Eprint,

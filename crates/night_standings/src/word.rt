@@ -179,8 +179,8 @@ where
 
 /// Writes the standings of a tournament or of its teams, the crosstable, or both with the rounds for the page, or the
 /// report; none where a board's game is of others than its players, or a board of teams is of no match. It fails behind
-/// that where a board has the result of a game that was played on as another, where a line of the archive was left out,
-/// or the server is away; and of a report where a board has no result.
+/// that where a board has the result of a game that was played on as another, where a game counts for two boards, a line
+/// of the archive was left out, or the server is away; and of a report where a board has no result.
 pub fn write_standings<R>(rt: &R, asked: &Standing<'_>) -> Result<()>
 where
     R: Files + Net<Stream = TcpStream> + AllocGlobal + Print + Eprint,
