@@ -91,17 +91,14 @@ where
         let number = board.pairing.board;
         let (white, black) = (board.pairing.white.as_str(), board.game.black.as_str());
         println!(rt; "board {number}: game {game}, {white} against {black}")?;
-        self.settled.push(number)?;
         self.games = self.games.saturating_add(1);
         Ok(())
     }
 
     // Asks the arbiter about a board.
-    fn tell_question(&mut self, board: &Board) -> Result<()> {
+    fn tell_question(&self, board: &Board) -> Result<()> {
         let question = board.question(&self.file)?;
-        tell(self.rt, question.as_str())?;
-        self.settled.push(board.pairing.board)?;
-        Ok(())
+        Ok(tell(self.rt, question.as_str())?)
     }
 
     // Tells what became of a board.
@@ -111,6 +108,7 @@ where
             Became::Has(game) => self.tell_game(board, game)?,
             Became::Asks => self.tell_question(board)?,
         }
+        self.settled.push(board.pairing.board)?;
         self.is_unheard = false;
         Ok(())
     }
