@@ -60,6 +60,12 @@ export class Adjournments {
     return keys.filter((key) => key.startsWith(PREFIX)).map(readNote).filter(Boolean).sort((a, b) => b.at - a.at);
   }
 
+  /** Whether a game that is over was adjourned, as this browser has noted it. */
+  has({ number, white, black, article }) {
+    return article === AGREEMENT && this.notes().some((note) => note.closed && note.game === number
+      && note.white === white && note.black === black);
+  }
+
   /** Keeps a note; false where the browser does not. */
   keep(note) {
     const kept = write(local, note.key, JSON.stringify(note));

@@ -425,10 +425,12 @@ export class ArbiterView {
     return this.app.nameWords(side === 'w' ? card.standing.white : card.standing.black);
   }
 
-  stateWords({ number, standing: { white, black, side, offer, result, article }, clocks }) {
+  stateWords({ number, standing, clocks }) {
+    const { white, black, side, offer, result, article } = standing;
     if (article) {
       const words = resultWords(result, article), decided = this.app.round.decided(number, result);
       if (decided) return `${resultText(decided.result)} ${decidedWords(decided.result)}`;
+      if (this.adjourned.has(standing)) return t`Adjourned`;
       return `${words.score} ${withReason(words.result, words.reason)}`;
     }
     if (!white || !black) return t`Waiting for ${colourWord(white ? 'b' : 'w')}`;
@@ -462,7 +464,8 @@ export class ArbiterView {
   }
 
   renderLog() {
-    const log = this.app.round.log();
+    const log = this.app.round.log(), wrong = this.app.round.wrong().join('; ');
+    setText(byId('round-wrong'), wrong && t`The club’s machine says of the round’s files: ${wrong}`);
     byId('desk-log').hidden = !log;
     if (!log) return;
     const { lines, sum, at, broken } = log;

@@ -14,7 +14,7 @@ const QUIET = 10000;                 // so long after a player's offer was said 
 
 export class Challenges {
   /** app: {wire, me(), isArbiter(), nameWords(name), players, askPlayers(), learnNames(names), reachable(), go(route),
-   * ownRunning(), turns}. */
+   * ownRunning(), retitle(), turns}. */
   constructor(app) {
     this.app = app;
     this.items = new Map();            // of each offer that is shown, by its row, the element
@@ -75,6 +75,8 @@ export class Challenges {
     for (const row of rows) if (!this.items.has(row)) this.items.set(row, this.item(row));
     arrange(byId('challenges'), rows.map((row) => this.items.get(row)));
     if (this.app.view === this.app.game) this.app.game.render();
+    this.app.retitle();
+    this.app.turns.asked(this.offered() !== '');
     this.said = new Set(rows.filter((row) => this.said.has(row)));
     for (const row of rows) if (!this.said.has(row) && !this.isOwn(row)) this.tell(row);
   }
@@ -93,6 +95,12 @@ export class Challenges {
   /** Whether a player offers this game, `WHITE BLACK TIMES`. */
   stands(by, line) {
     return this.items.has(`${by} ${line}`);
+  }
+
+  /** What one is offered, in words, the first of it; '' where that is nothing. */
+  offered() {
+    const row = [...this.items.keys()].find((one) => !this.isOwn(one));
+    return row ? this.words(row) : '';
   }
 
   isOwn(row) {

@@ -1,5 +1,5 @@
-// Runs before anything is drawn: takes a personal link's token out of the address bar, and sets light or dark, and the
-// board.
+// Runs before anything is drawn: takes a personal link's token out of the address bar, sets light or dark, and the board,
+// and loads the page once more where one of its scripts has not come.
 (function () {
   'use strict';
   const fragment = location.hash.slice(1);
@@ -15,4 +15,11 @@
   } catch (refused) {
     // Without storage the system's choice stands.
   }
+  // (with the link, and no sooner than the lobby answers: in the place of the page the browser's own would stand)
+  const again = () => setTimeout(() => fetch(location.pathname, { cache: 'no-store' }).then(({ ok }) => {
+    if (!ok) return again();
+    if (fragment === window['personalLink']) history.replaceState(null, '', '#' + fragment);
+    return location.reload();
+  }).catch(again), 3000);
+  addEventListener('error', ({ target }) => target instanceof HTMLScriptElement && again(), true);
 })();

@@ -132,7 +132,7 @@ export class GameView {
       Object.assign(this, { noted: null, notedFor: '' });
       this.note('');
       this.suggest(null);
-      byId('move-text').value = '';
+      byId('move-text').value = byId('where').textContent = '';
       this.room.clear();
       if (number === this.lostJoin) this.lost({ word: 'join' });
       this.lostJoin = 0;

@@ -129,11 +129,11 @@ export function toldOf({ number, tags, text }, nameOf) {
   for (let [at] = game.start.next; at; [at] = at.next) {
     line.push({ san: at.san, text: at.text, ...squaresOf(at.text), fen: fenOf(at.position) });
   }
-  const initial = initialOf(tags) || 0;
+  const initial = initialOf(tags) || 0, left = { w: leftAt(last, 'w', initial), b: leftAt(last, 'b', initial) };
+  if (tags.Article === '6.9') left[last.position.side] = 0;        // (the flag that has fallen)
   const standing = { number, white: nameOf(tags.White), black: nameOf(tags.Black), ply: line.length - 1,
-    side: last.position.side, left: { w: leftAt(last, 'w', initial), b: leftAt(last, 'b', initial) }, offer: '',
-    result: tags.Result, article: tags.Article || '?', fen: fenOf(last.position), check: isInCheck(last.position),
-    moves: [] };
+    side: last.position.side, left, offer: '', result: tags.Result, article: tags.Article || '?',
+    fen: fenOf(last.position), check: isInCheck(last.position), moves: [] };
   return { standing, line };
 }
 

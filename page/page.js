@@ -35,6 +35,7 @@ class Page {
     this.held = new Set();             // of these, those of which it has said that it does
     this.begun = new Set();            // one's own games that had begun, or of which it was said
     this.toldRunning = 0;              // of these, the one to which the way is shown
+    this.toldWords = '';               // what is told of it
     this.who = new Who(this);
     this.turns = new Turns();
     this.offers = new Offers(this);    // (before the connection, which ends where the page is left)
@@ -98,6 +99,7 @@ class Page {
     addEventListener('keydown', (event) => this.key(event));
     document.addEventListener('visibilitychange', () => {
       if (!document.hidden && this.view === this.game) this.game.refresh();
+      this.askAnew();
     });
     // (else who scrolls over a number changes it)
     const leave = (event) => event.target.matches('[type=number]:focus') && event.target.blur();
@@ -159,11 +161,13 @@ class Page {
     this.retitle();
   }
 
-  /** The tab's title: what is shown, unless it is one's turn in a game that is not. */
+  /** The tab's title: what is shown, unless it is one's turn in a game that is not; before both, at no board of one's own
+   * game, a game that one is offered. */
   retitle() {
-    const own = this.view === this.table || this.isPlaying() ? [] : this.ownRunning(), { text } = this;
+    const offered = this.isPlaying() ? '' : this.challenges.offered();
+    const own = this.view === this.table || this.isPlaying() ? [] : this.ownRunning(), { text = t`Games` } = this;
     const yours = own.filter((row) => this.table.mayMove(row)).length;
-    const words = !yours ? text : yours === 1 ? t`Your turn in 1 game` : t`Your turn in ${yours} games`;
+    const words = offered || (!yours ? text : yours === 1 ? t`Your turn in 1 game` : t`Your turn in ${yours} games`);
     document.title = t`${words} · Chess club`;
   }
 
@@ -196,7 +200,7 @@ class Page {
   }
 
   leaveOthers() {
-    const needed = new Set(this.view.needs());
+    const needed = new Set([...this.view.needs(), ...this.others().map(({ number }) => number)]);
     for (const number of this.watched) {
       if (needed.has(number)) continue;
       this.watched.delete(number);
@@ -255,6 +259,7 @@ class Page {
     this.atTable();
     byId('invited').hidden = byId('taken-back').hidden = true;
     if (view !== this.table) this.tellOther(isGame ? number : 0);
+    if (view === this.game) this.table.watchOwn();
     for (const link of document.querySelectorAll('.top nav a')) {
       if (link.getAttribute('href') === (isGame ? '' : view.hash || '#/')) link.setAttribute('aria-current', 'page');
       else link.removeAttribute('aria-current');
@@ -329,10 +334,29 @@ class Page {
       && (white === me || black === me)).reverse();
   }
 
-  /** Elsewhere, and at another board, that a game of one's own goes on, where it does. */
+  /** At a board, one's own other games that go on. */
+  others() {
+    return this.view === this.game ? this.ownRunning().filter(({ number }) => number !== this.game.number) : [];
+  }
+
+  /** Elsewhere, and at another board, that a game of one's own goes on, where it does: first one in which it is one's
+   * turn. */
   tellOther(number) {
-    const row = this.ownRunning().find((one) => one.number !== number);
+    const rows = this.ownRunning().filter((one) => one.number !== number);
+    const row = rows.find((one) => this.table.mayMove(one)) || rows[0];
     if (row) this.tellRunning(row.number, this.gameWords(row, t`goes on`));
+  }
+
+  /** At a board, that a move was made in another game of one's own. */
+  movedThere(number) {
+    const row = this.others().find((one) => one.number === number);
+    if (!row) return;
+    this.tellOther(this.game.number);
+    if (!this.table.mayMove(row)) return;
+    const words = t`${this.gameWords(row, t`goes on`)}: it is your turn. `.trim();
+    say(words);
+    sound('offer');
+    this.turns.tell(words);
   }
 
   gameWords({ number, white, black }, what) {
@@ -366,10 +390,16 @@ class Page {
 
   /** That a game goes on or has begun at another board, and the way there, until it ends. */
   tellRunning(number, words) {
-    this.toldRunning = number;
+    const row = this.table.rows.get(number), isTurn = Boolean(row) && this.table.mayMove(row);
+    Object.assign(this, { toldRunning: number, toldWords: words });
     byId('invited').hidden = false;
-    byId('invited').replaceChildren(t`${words}: the clocks run. `,
+    byId('invited').replaceChildren(isTurn ? t`${words}: it is your turn. ` : t`${words}: the clocks run. `,
       make('a', { class: 'button strong', href: `#/game/${number}` }, t`Go there`));
+  }
+
+  /** It is known now whose turn it is there. */
+  tellAgain() {
+    if (!byId('invited').hidden) this.tellRunning(this.toldRunning, this.toldWords);
   }
 
   endRunning() {
@@ -438,6 +468,7 @@ class Page {
     if (this.view === this.hall) this.hall.notice(number, sent, answer, standing);
     if (this.view === this.desk) this.desk.notice(number, act, answer, standing);
     if (standing) this.invite(number, act, sent.split(' ')[0], standing);
+    if (sent.startsWith('move ')) this.movedThere(number);
   }
 
   /** Somebody has joined one's own game, or an arbiter for them; or the opponent of a game that is over has opened another. */

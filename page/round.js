@@ -180,6 +180,11 @@ export class RoundFile {
     return this.told && this.told.log || null;
   }
 
+  /** What is wrong with what the file was made of, in the words of who made it. */
+  wrong() {
+    return this.told && this.told.wrong || [];
+  }
+
   /** The number of the newest round, 0 where none was told. */
   newest() {
     return this.told ? this.told.rounds.length : 0;

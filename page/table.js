@@ -16,13 +16,14 @@ const MOST_OWN = 10, MOST_ROOMS = 10;
 const KEPT_AFTER = 4000;             // milliseconds: so long after a game has left the table it is among the kept ones
 
 export class TableView {
-  /** app: {wire, me(), nameWords(name), openGame(line, note)}. */
+  /** app: {wire, me(), nameWords(name), openGame(line, note), others(), tellAgain()}. */
   constructor(app) {
     this.app = app;
     this.root = byId('table-view');
     this.rows = new Map();
     this.all = new Set();
     this.last = [];                    // of the games that were kept the newest
+    this.isStale = false;              // newer ones were kept while the tab was hidden
     this.items = new Map();            // what an element shows -> the element
     this.times = new TimesField(byId('open-form'), byId('open-times'));
     byId('open-form').addEventListener('submit', (event) => {
@@ -30,6 +31,7 @@ export class TableView {
       this.submit();
     });
     byId('find').addEventListener('input', () => this.render());
+    document.addEventListener('visibilitychange', () => document.hidden || this.isStale && this.readNow());
   }
 
   open() {
@@ -53,7 +55,7 @@ export class TableView {
     const before = this.rows;
     this.rows = new Map(rows.map((row) => [row.number, { ...before.get(row.number), ...row }]));
     if ([...before.values()].some((row) => wasPlayed(row) && !this.rows.has(row.number))) this.readLater();
-    if (!this.root.hidden) this.watchOwn();
+    this.watchOwn();
     this.render();
     this.askTimes();
     this.askRooms();
@@ -102,7 +104,13 @@ export class TableView {
 
   readLater() {
     clearTimeout(this.reads);
-    this.reads = setTimeout(() => this.root.hidden || document.hidden || this.readLast(), KEPT_AFTER);
+    this.reads = setTimeout(() => this.readNow(), KEPT_AFTER);
+  }
+
+  /** Nobody reads them for who looks elsewhere, who has them as soon as they look. */
+  readNow() {
+    this.isStale = document.hidden;
+    if (!this.isStale && !this.root.hidden) this.readLast();
   }
 
   /** Of these games those that are not on the table. */
@@ -135,16 +143,18 @@ export class TableView {
       .find((row) => row.times === undefined);
   }
 
-  /** At the table one's own games are watched, so that it shows whose turn it is. */
+  /** At the table one's own games are watched, so that it shows whose turn it is, and at a board the others that go on. */
   async watchOwn() {
-    if (this.root.hidden || !this.app.me() || !this.app.reachable()) return;
-    for (const row of this.groups().own.slice(0, MOST_OWN)) {
+    const rows = this.root.hidden ? this.app.others() : this.groups().own;
+    if (!this.app.me() || !this.app.reachable()) return;
+    for (const row of rows.slice(0, MOST_OWN)) {
       // (one that was left for the table a moment ago is still watched, and its row knows no side yet)
       if (this.app.watched.has(row.number) && row.side) continue;
       const answer = await this.app.watch(row.number);
       const standing = answer[0].startsWith('ok ') && readStanding(answer.slice(1));
       const now = this.rows.get(row.number);
       if (standing && now) Object.assign(now, { side: standing.side, ply: standing.ply });
+      if (this.root.hidden) this.app.tellAgain();
       this.renderSoon();
     }
   }
@@ -238,7 +248,8 @@ export class TableView {
 
   mayMove(row) {
     const me = this.app.me();
-    return Boolean(row.white && row.black && row.side && (row.side === 'w' ? row.white : row.black) === me);
+    return Boolean(row.result === '*' && row.white && row.black && row.side
+      && (row.side === 'w' ? row.white : row.black) === me);
   }
 
   item(row, kind) {

@@ -1,4 +1,5 @@
-// It is one's turn, and the tab is hidden: its icon shows that, and the browser tells it where that was agreed to.
+// It is one's turn, or one is offered a game, and the tab is hidden: its icon shows that, and the browser tells it where
+// that was agreed to.
 
 import { t } from './language.js';
 import { byId, read, write } from './make.js';
@@ -8,6 +9,7 @@ const local = () => localStorage;
 export class Turns {
   constructor() {
     this.key = '';                     // of one's turn that is now; empty where it is not
+    this.isAsked = false;              // one is offered a game
     this.link = document.querySelector('link[rel=icon]');
     document.addEventListener('visibilitychange', () => this.draw());
     byId('notices-yes').addEventListener('click', () => this.decide('on'));
@@ -22,8 +24,13 @@ export class Turns {
     if (isNew) this.tell(words);
   }
 
+  asked(isAsked) {
+    this.isAsked = isAsked;
+    this.draw();
+  }
+
   draw() {
-    const icon = document.hidden && this.key ? 'icon-turn.svg' : 'icon.svg';
+    const icon = document.hidden && (this.key || this.isAsked) ? 'icon-turn.svg' : 'icon.svg';
     if (this.link.getAttribute('href') !== icon) this.link.setAttribute('href', icon);
   }
 

@@ -1,5 +1,5 @@
 // What waits for an arbiter: in any running game an offer of a draw, a clock that has run out without a word, and a player
-// who has not moved within the default time; and a board of a round whose game is a draw by the Laws.
+// who has not moved within the default time; and a board of a round whose game is, or may be, a draw by the Laws.
 
 import { t } from './language.js';
 import { readShow } from './lines.js';
@@ -89,7 +89,7 @@ export class Waits {
   // ---- showing
 
   /** [{kind, words, row}]: a clock that the server tells as run out, each offer, who has not come, and what is a draw by
-   * the Laws. */
+   * the Laws, or may be one. */
   found() {
     const found = this.drawn();
     for (const row of this.desk.running()) {
@@ -110,9 +110,10 @@ export class Waits {
     return found.sort((a, b) => a.kind.localeCompare(b.kind) || a.row.number - b.row.number);
   }
 
-  /** The boards of rounds about which an arbiter has to decide, as their file was told last. */
+  /** The boards of rounds about which an arbiter has to decide, as their file was told last: also where it was not
+   * found out whether the winner can mate. */
   drawn() {
-    return this.desk.app.round.asked().filter(({ law }) => law.found === 'cannot').map(({ game, white, black, law }) => ({
+    return this.desk.app.round.asked().filter(({ law }) => law.found !== 'mates').map(({ game, white, black, law }) => ({
       kind: 'law', words: lawWords(law), names: [white, black], goesOn: !law.side, row: { number: game } }));
   }
 

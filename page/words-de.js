@@ -242,6 +242,7 @@ export const WORDS = {
   'has begun': 'hat begonnen',
   'goes on': 'geht weiter',
   '{0}: the clocks run. ': '{0}: die Uhren laufen. ',
+  '{0}: it is your turn. ': '{0}: du bist am Zug. ',
   'Go there': 'Hingehen',
   'The connection broke, and your game has not been opened so far. Look, and open it again.':
     'Die Verbindung ist abgerissen, und deine Partie ist bisher nicht eröffnet. Sieh nach und eröffne sie noch '
@@ -964,6 +965,7 @@ export const WORDS = {
   'Each position that can still come was looked at.': 'Jede Stellung, die noch kommen kann, wurde angesehen.',
   'Lines of the log: {0}; the last was put at {1}. Its sum, to be written down as a round ends:':
     'Zeilen des Protokolls: {0}; die letzte kam am {1}. Ihre Summe, am Ende einer Runde zu notieren:',
+  'The club’s machine says of the round’s files: {0}': 'Der Rechner des Vereins sagt zu den Dateien der Runde: {0}',
   'The log is empty.': 'Das Protokoll ist leer.',
   'Line {0} of the log does not fit behind the line before it.':
     'Zeile {0} des Protokolls passt nicht hinter die Zeile davor.',

@@ -238,6 +238,7 @@ export const WORDS = {
   'has begun': 'ha comenzado',
   'goes on': 'sigue',
   '{0}: the clocks run. ': '{0}: los relojes corren. ',
+  '{0}: it is your turn. ': '{0}: te toca jugar. ',
   'Go there': 'Ir allí',
   'The connection broke, and your game has not been opened so far. Look, and open it again.':
     'La conexión se cortó, y tu partida no se ha abierto hasta ahora. Mira y ábrela otra vez.',
@@ -955,6 +956,7 @@ export const WORDS = {
   'Each position that can still come was looked at.': 'Se miró cada posición que aún puede darse.',
   'Lines of the log: {0}; the last was put at {1}. Its sum, to be written down as a round ends:':
     'Líneas del registro: {0}; la última se escribió el {1}. Su suma, para anotarla al terminar la ronda:',
+  'The club’s machine says of the round’s files: {0}': 'La máquina del club dice de los archivos de la ronda: {0}',
   'The log is empty.': 'El registro está vacío.',
   'Line {0} of the log does not fit behind the line before it.':
     'La línea {0} del registro no encaja tras la línea anterior.',

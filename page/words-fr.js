@@ -245,6 +245,7 @@ export const WORDS = {
   'has begun': 'a commencé',
   'goes on': 'continue',
   '{0}: the clocks run. ': '{0} : les pendules tournent. ',
+  '{0}: it is your turn. ': '{0} : c’est à vous de jouer. ',
   'Go there': 'Y aller',
   'The connection broke, and your game has not been opened so far. Look, and open it again.':
     'La connexion s’est rompue, et votre partie n’est pas ouverte jusqu’ici. Regardez, puis ouvrez-la de nouveau.',
@@ -971,6 +972,7 @@ export const WORDS = {
   'Each position that can still come was looked at.': 'Toutes les positions encore possibles ont été examinées.',
   'Lines of the log: {0}; the last was put at {1}. Its sum, to be written down as a round ends:':
     'Lignes du journal : {0} ; la dernière a été écrite le {1}. Sa somme, à noter à la fin d’une ronde :',
+  'The club’s machine says of the round’s files: {0}': 'La machine du club dit des fichiers de la ronde : {0}',
   'The log is empty.': 'Le journal est vide.',
   'Line {0} of the log does not fit behind the line before it.':
     'La ligne {0} du journal ne s’accorde pas avec la ligne précédente.',

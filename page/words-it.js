@@ -241,6 +241,7 @@ export const WORDS = {
   'has begun': 'è cominciata',
   'goes on': 'continua',
   '{0}: the clocks run. ': '{0}: gli orologi corrono. ',
+  '{0}: it is your turn. ': '{0}: tocca a te. ',
   'Go there': 'Vai',
   'The connection broke, and your game has not been opened so far. Look, and open it again.':
     'La connessione si è interrotta, e finora la tua partita non è aperta. Guarda e aprila di nuovo.',
@@ -961,6 +962,7 @@ export const WORDS = {
   'Each position that can still come was looked at.': 'È stata esaminata ogni posizione che può ancora venire.',
   'Lines of the log: {0}; the last was put at {1}. Its sum, to be written down as a round ends:':
     'Righe del registro: {0}; l’ultima è stata scritta il {1}. La sua somma, da annotare alla fine di un turno:',
+  'The club’s machine says of the round’s files: {0}': 'La macchina del circolo dice dei file del turno: {0}',
   'The log is empty.': 'Il registro è vuoto.',
   'Line {0} of the log does not fit behind the line before it.':
     'La riga {0} del registro non si accorda con la riga precedente.',

@@ -241,6 +241,7 @@ export const WORDS = {
   'has begun': 'is begonnen',
   'goes on': 'gaat door',
   '{0}: the clocks run. ': '{0}: de klokken lopen. ',
+  '{0}: it is your turn. ': '{0}: jij bent aan zet. ',
   'Go there': 'Erheen',
   'The connection broke, and your game has not been opened so far. Look, and open it again.':
     'De verbinding is verbroken, en je partij is nog niet geopend. Kijk en open de partij opnieuw.',
@@ -963,6 +964,8 @@ export const WORDS = {
   'Each position that can still come was looked at.': 'Elke stelling die nog kan komen, is bekeken.',
   'Lines of the log: {0}; the last was put at {1}. Its sum, to be written down as a round ends:':
     'Regels van het logboek: {0}; de laatste kwam op {1}. De som ervan, te noteren aan het eind van een ronde:',
+  'The club’s machine says of the round’s files: {0}':
+    'De computer van de club zegt over de bestanden van de ronde: {0}',
   'The log is empty.': 'Het logboek is leeg.',
   'Line {0} of the log does not fit behind the line before it.':
     'Regel {0} van het logboek past niet achter de regel ervoor.',

@@ -239,6 +239,7 @@ export const WORDS = {
   'has begun': 'rozpoczęła się',
   'goes on': 'trwa',
   '{0}: the clocks run. ': '{0}: zegary idą. ',
+  '{0}: it is your turn. ': '{0}: twoja kolej. ',
   'Go there': 'Przejdź',
   'The connection broke, and your game has not been opened so far. Look, and open it again.':
     'Połączenie zostało zerwane, a twoja partia jeszcze nie jest otwarta. Sprawdź i otwórz ją ponownie.',
@@ -951,6 +952,7 @@ export const WORDS = {
   'Each position that can still come was looked at.': 'Sprawdzono każdą pozycję, która może jeszcze powstać.',
   'Lines of the log: {0}; the last was put at {1}. Its sum, to be written down as a round ends:':
     'Wiersze dziennika: {0}; ostatni zapisano {1}. Jego suma, do zanotowania na koniec rundy:',
+  'The club’s machine says of the round’s files: {0}': 'Komputer klubu mówi o plikach rundy: {0}',
   'The log is empty.': 'Dziennik jest pusty.',
   'Line {0} of the log does not fit behind the line before it.':
     'Wiersz {0} dziennika nie pasuje do wiersza przed nim.',

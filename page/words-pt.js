@@ -237,6 +237,7 @@ export const WORDS = {
   'has begun': 'começou',
   'goes on': 'continua',
   '{0}: the clocks run. ': '{0}: os relógios correm. ',
+  '{0}: it is your turn. ': '{0}: é a sua vez. ',
   'Go there': 'Ir para lá',
   'The connection broke, and your game has not been opened so far. Look, and open it again.':
     'A conexão caiu, e sua partida ainda não foi aberta. Veja e abra de novo.',
@@ -949,6 +950,7 @@ export const WORDS = {
   'Each position that can still come was looked at.': 'Foi vista cada posição que ainda pode surgir.',
   'Lines of the log: {0}; the last was put at {1}. Its sum, to be written down as a round ends:':
     'Linhas do registro: {0}; a última foi escrita em {1}. A soma dela, para anotar ao fim de uma rodada:',
+  'The club’s machine says of the round’s files: {0}': 'A máquina do clube diz dos arquivos da rodada: {0}',
   'The log is empty.': 'O registro está vazio.',
   'Line {0} of the log does not fit behind the line before it.':
     'A linha {0} do registro não se ajusta à linha anterior.',

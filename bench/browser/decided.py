@@ -218,7 +218,8 @@ def laws_told(number, **found):
 
 def the_laws_at_the_desk(hall):
     """The desk shows what the Laws say of a result beside it: a draw by them waits, and the decision is filled in; moves
-    that mate stand there, and nothing waits. It shows how far the log goes, with the sum of its last line."""
+    that mate stand there, and nothing waits; what was not found out waits too. It shows how far the log goes, with the
+    sum of its last line, and what is wrong with the round's files."""
     sue = hall.sit()[2]
     number = paired(hall, 'ann', 'bob', '300 0')
     entered(hall, 'as ann move %s 0 e2e4' % number, 'as bob move %s 1 e7e5' % number, 'as ann resign ' + number)
@@ -233,14 +234,15 @@ def the_laws_at_the_desk(hall):
     sue.until(lambda: [value(sue, name) for name in ('round', 'board', 'result', 'article', 'reason')] == [
         '2', '1', '1/2-1/2', '5.1.2', 'Black cannot mate by any legal moves'], 'the decision is filled in')
     sue.click('#decide-leave')
-    serves(hall, json.dumps(laws_told(number, found='mates', line='Nf6 Kh1') | {
+    serves(hall, json.dumps(laws_told(number, found='mates', line='Nf6 Kh1') | {'wrong': ['round2.csv: <b>', 'and more'],
         'log': {'lines': 2406, 'sum': SUM, 'at': 1764160000123, 'broken': 17}}))
     sue.reload().reads(on_card(number, '.desk-law'), 'Black can still mate (5.1.2), as by Nf6 Kh1')
     sue.lacks('#waits-list .law', 'nothing waits').reads('#log-broken', 'Line 17 of the log does not fit')
+    sue.reads('#round-wrong', 'The club’s machine says of the round’s files: round2.csv: <b>; and more')
     sue.click(on_card(number, '[data-key^=decide-]')).reads('#decide-law', 'Black can still mate')
     sue.is_so(value(sue, 'result') == '', 'nothing is filled in').click('#decide-leave')
     serves(hall, json.dumps(laws_told(number, found='unknown')))
-    sue.reload().reads(on_card(number, '.desk-law'), 'was not found out').lacks('#waits-list .law', 'nothing waits')
+    sue.reload().reads(on_card(number, '.desk-law'), 'was not found out').reads('#waits-list', 'was not found out')
     sue.is_quiet()
     for language in in_languages(sue):
         sue.goes('arbiter').reload().finds('#log-sum', 'the desk in ' + language)

@@ -271,7 +271,8 @@ LOOKS = 'window.isHidden = arguments[0]; document.dispatchEvent(new Event("visib
 
 
 def told_elsewhere(hall):
-    """Whose turn it is and who looks elsewhere sees it at the tab's icon, and is told where that was agreed to."""
+    """Whose turn it is, or who is offered a game, and who looks elsewhere sees it at the tab's icon, and is told where
+    that was agreed to."""
     ann, bob, _ = hall.sit()
     hall.fill(minutes='20')
     icon = lambda person: person.run('return document.querySelector("link[rel=icon]").getAttribute("href")')
@@ -280,6 +281,14 @@ def told_elsewhere(hall):
         person.run(ELSEWHERE)
         if person.find('#keep-not'):
             person.click('#keep-not')
+    carl = Guest(hall.lobby.port, hall.lobby.tokens['cid'])
+    ann.run(LOOKS, True)
+    carl.ask('pair cid ann 1200 0')
+    ann.until(lambda: icon(ann) == 'icon-turn.svg' and ' offers you a game' in ann.driver.title, 'so is an offer')
+    carl.ask('unpair ann')
+    ann.until(lambda: icon(ann) == 'icon.svg' and ann.driver.title.startswith('Games'), 'as long as it stands')
+    carl.close()
+    ann.run(LOOKS, False)
     ann.click('#open-game').reads('#notices', 'Shall this browser tell you')
     ann.click('#notices-yes')
     ann.until(lambda: ann.run('return window.asked') == 1 and not ann.sees('#notices'), 'the browser is asked')
@@ -329,7 +338,8 @@ def slow_answers(hall):
 
 
 def foreign_links(hall):
-    """A link cut short says so; another player's asks first; one's own new one does not; a closed one says so."""
+    """A link cut short says so; another player's asks first; one's own new one does not; a closed one says so; and one
+    holds where the page does not come whole."""
     number, ann, bob, sue = hall.begin(minutes='20')
     tokens, full = hall.lobby.tokens, hall.lobby.full
     sue.go('about:blank').go(hall.lobby.address + '#' + tokens['bob'][:20])
@@ -360,6 +370,14 @@ def foreign_links(hall):
     tokens['ann'] = found.rsplit(' ', 1)[1]
     ann.takes(tokens['ann']).shows('#who-name', full['ann'], 'one’s own new link signs in')
     ann.lacks('#other-dialog', 'and asks nothing')
+    sue.cdp('Network.enable')
+    sue.cdp('Network.setBlockedURLs', urls=['*/kept.js'])
+    sue.go('about:blank').go(hall.lobby.address + '#' + tokens['dee'])
+    sue.is_so(sue.text('#who-name') == 'Watching', 'a script of the page has not come')
+    sue.cdp('Network.setBlockedURLs', urls=[])
+    sue.shows('#who-name', full['dee'], 'the page comes once more, with the link')
+    sue.run('sessionStorage.clear()')
+    sue.driver.get_log('browser')
     sue.reload()
 
 
@@ -643,7 +661,7 @@ JOINS = 'return [...document.querySelectorAll("[data-key^=join-]")].map((e) => e
 
 def the_board_stays(hall):
     """What is told does not move the board of who plays, nor a break. Another game that is offered meanwhile begins once that is
-    accepted twice, and at every board one is told of one's own other game."""
+    accepted twice, and at every board one is told of one's own other game, and where it is one's turn there."""
     number, ann, bob, sue = hall.begin(minutes='20')
     place = 'const at = document.querySelector("#board").getBoundingClientRect(); return [at.left, at.top, at.width]'
     stood = [person.run(place) for person in (ann, bob)]
@@ -669,7 +687,9 @@ def the_board_stays(hall):
     ann.reads('#invited', 'Your game %s against' % number, 'goes on')
     second = ann.driver.current_url.rsplit('/', 1)[1]
     ann.click('#telling-opens', '#invited a').until(lambda: ann.driver.current_url == here, 'the way to it')
-    ann.reads('#invited', 'Your game %s against' % second, 'goes on')
+    ann.reads('#invited', 'Your game %s against' % second, 'goes on').reads('#invited', 'the clocks run')
+    carl.ask('move %s 0 e4' % second)
+    ann.reads('#invited', 'it is your turn')
     by_lines(hall, 'ann', 'resign ' + second)
     ann.loses('#invited', 'that is told until it has ended')
     by_lines(hall, 'eve', 'announce')

@@ -727,7 +727,7 @@ const GAME: &[u8] = b"~~~~~~~~ok pgn 1 2\n\
 
 const LAST_ROWS: &[u8] =
     b"\n39 Ng1 f3g1 rnbqkb1r/pppppppp/5n2/8/8/8/PPPPPPPP/RNBQKBNR b KQkq - 39 20\n\
-40 Ng8 f6g8 rnbqkbnr/pppppppp/8/8/8/8/PPPPPPPP/RNBQKBNR w KQkq - 40 21\n\x81\x11no 33 NotArbiter\n";
+40 Ng8 f6g8 rnbqkbnr/pppppppp/8/8/8/8/PPPPPPPP/RNBQKBNR w KQkq - 40 21\n\x81\x12ok who open 1\nann\n";
 
 // The same of a game of 9,000 plies.
 const LONG_GAME: &[u8] = b"~~~~~~~~LONG";
