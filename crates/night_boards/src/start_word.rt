@@ -12,7 +12,6 @@ use command_lines::{tell, unix_time};
 use jiff::Timestamp;
 use lobby_players::players_of;
 use night_rounds::{Against, Pairing};
-use std::alloc::Global;
 use std::fs::File;
 use std::net::{Net, SocketAddr, TcpStream};
 use std::random::RandomSource;
@@ -32,7 +31,8 @@ struct Arbiter<'a> {
 
 /// What became of the boards of a round.
 #[derive(Drop)]
-struct Rounds<'a> {
+struct Rounds<'a, R> {
+    rt: &'a R,
     arbiter: Arbiter<'a>,
     file: RoundFile,
     // The boards, by their numbers, of which the arbiter is asked.
@@ -53,14 +53,18 @@ fn moment<R: Clock>(rt: &R) -> Result<i64> {
     }
 }
 
-impl<'a> Rounds<'a> {
+impl<'a, R> Rounds<'a, R>
+where
+    R: Net<Stream = TcpStream> + RandomSource + AllocGlobal + Clock + Clone + Drop + Print + Eprint,
+{
     // Whether it cannot go on.
     fn has_failed(&self) -> bool {
         self.is_unheard || self.is_barred || self.file.has_failed()
     }
 
     // Tells that a board has its game.
-    fn tell_game<R: Print>(&mut self, rt: &R, board: &Board, game: u32) -> Result<()> {
+    fn tell_game(&mut self, board: &Board, game: u32) -> Result<()> {
+        let rt = self.rt;
         let number = board.pairing.board;
         let (white, black) = (board.pairing.white.as_str(), board.game.black.as_str());
         println!(rt; "board {number}: game {game}, {white} against {black}")?;
@@ -69,19 +73,19 @@ impl<'a> Rounds<'a> {
     }
 
     // Asks the arbiter about a board.
-    fn tell_question<R: Eprint>(&mut self, rt: &R, board: &Board) -> Result<()> {
+    fn tell_question(&mut self, board: &Board) -> Result<()> {
         let question = board.question(&self.file)?;
-        tell(rt, question.as_str())?;
+        tell(self.rt, question.as_str())?;
         self.asks.push(board.pairing.board)?;
         Ok(())
     }
 
     // Tells what became of a board.
-    fn tell<R: Print + Eprint>(&mut self, rt: &R, board: &Board, became: Became) -> Result<()> {
+    fn tell(&mut self, board: &Board, became: Became) -> Result<()> {
         self.is_unheard = true;
         match became {
-            Became::Has(game) => self.tell_game(rt, board, game)?,
-            Became::Asks => self.tell_question(rt, board)?,
+            Became::Has(game) => self.tell_game(board, game)?,
+            Became::Asks => self.tell_question(board)?,
         }
         self.is_unheard = false;
         Ok(())
@@ -98,12 +102,9 @@ impl<'a> Rounds<'a> {
     }
 
     // Connects to the lobby as the arbiter. Where the token is no arbiter's, it cannot go on.
-    fn link<'b, R>(&mut self, rt: &'b R) -> Result<LobbyLink<'b, R>>
-    where
-        R: Net<Stream = TcpStream> + RandomSource + AllocGlobal + Clock + Clone + Drop,
-    {
+    fn link(&mut self) -> Result<LobbyLink<'a, R>> {
         let lobby = self.arbiter.lobby;
-        let mut link = LobbyLink::open(rt, lobby)?;
+        let mut link = LobbyLink::open(self.rt, lobby)?;
         if !link.log_in(self.arbiter.token)? {
             self.is_barred = true;
             anyhow::bail!("the lobby at {lobby} knows no arbiter with this token");
@@ -112,69 +113,34 @@ impl<'a> Rounds<'a> {
     }
 
     // Goes on with a board over a connection.
-    fn go_on_over<R>(&mut self, rt: &R, link: &mut LobbyLink<'_, R>, board: &Board) -> Result<()>
-    where
-        R: Net<Stream = TcpStream>
-            + RandomSource
-            + AllocGlobal
-            + Clock
-            + Clone
-            + Drop
-            + Print
-            + Eprint,
-    {
+    fn go_on_over(&mut self, link: &mut LobbyLink<'a, R>, board: &Board) -> Result<()> {
         let (number, lobby) = (board.pairing.board, self.arbiter.lobby);
         let became = board
             .go_on(link, &mut self.file)
             .context(format_args!("board {number}, by the lobby at {lobby}"))?;
-        self.tell(rt, board, became)
+        self.tell(board, became)
     }
 
     // Goes on with a board over a connection, which is made where there is none, and is given up where it fails.
-    fn go_on_with<'b, R>(
-        &mut self,
-        rt: &'b R,
-        link: &mut Option<LobbyLink<'b, R>>,
-        board: &Board,
-    ) -> Result<()>
-    where
-        R: Net<Stream = TcpStream>
-            + RandomSource
-            + AllocGlobal
-            + Clock
-            + Clone
-            + Drop
-            + Print
-            + Eprint,
-    {
+    fn go_on_with(&mut self, link: &mut Option<LobbyLink<'a, R>>, board: &Board) -> Result<()> {
         let mut held = match link.take() {
             Some(held) => held,
-            None => self.link(rt)?,
+            None => self.link()?,
         };
-        self.go_on_over(rt, &mut held, board)?;
+        self.go_on_over(&mut held, board)?;
         *link = Some(held);
         Ok(())
     }
 
-    // The same, where a failure after which boards may be gone on with is kept, if it is the first.
-    fn go_on_at<'b, R>(
+    // Goes on with a board over a connection. A failure after which boards may be gone on with is kept, if it is the
+    // first.
+    fn go_on_at(
         &mut self,
-        rt: &'b R,
-        link: &mut Option<LobbyLink<'b, R>>,
+        link: &mut Option<LobbyLink<'a, R>>,
         board: &Board,
         first: &mut Result<()>,
-    ) -> Result<()>
-    where
-        R: Net<Stream = TcpStream>
-            + RandomSource
-            + AllocGlobal
-            + Clock
-            + Clone
-            + Drop
-            + Print
-            + Eprint,
-    {
-        let done = self.go_on_with(rt, link, board);
+    ) -> Result<()> {
+        let done = self.go_on_with(link, board);
         if self.has_failed() {
             return done;
         }
@@ -186,26 +152,48 @@ impl<'a> Rounds<'a> {
 
     // Goes on with each board whose start has come. It tells the first of the failures, after which a board may be gone
     // on with again.
-    fn go_on<R>(&mut self, rt: &R, boards: &[Board]) -> Result<()>
-    where
-        R: Net<Stream = TcpStream>
-            + RandomSource
-            + AllocGlobal
-            + Clock
-            + Clone
-            + Drop
-            + Print
-            + Eprint,
-    {
-        let now = moment(rt)?;
+    fn go_on(&mut self, boards: &[Board]) -> Result<()> {
+        let now = moment(self.rt)?;
         let mut link = None;
         let mut first = Ok(());
         for board in boards {
             if !self.rests(board, now) {
-                self.go_on_at(rt, &mut link, board, &mut first)?;
+                self.go_on_at(&mut link, board, &mut first)?;
             }
         }
         first
+    }
+
+    // Goes once round the boards. Where the lobby or its server is gone it is tried again.
+    fn go_once(&mut self, boards: &[Board], told: &mut String) -> Result<()> {
+        match self.go_on(boards) {
+            Ok(()) => {
+                told.clear();
+                Ok(())
+            }
+            Err(error) if self.has_failed() => Err(error),
+            Err(error) => tell_failure(self.rt, told, error),
+        }
+    }
+
+    // Goes round the boards until each has its game or is the arbiter's.
+    fn go_round(&mut self, boards: &[Board]) -> Result<()> {
+        let mut told = String::new(self.rt.alloc());
+        for _ in 0..u64::MAX {
+            self.go_once(boards, &mut told)?;
+            if self.asks.len().saturating_add(self.done.len()) >= boards.len() {
+                return Ok(());
+            }
+            thread::sleep(self.rt, Duration::from_millis(PAUSE));
+        }
+        Ok(())
+    }
+
+    // Goes round the boards to the end, and tells how many have their games.
+    fn go_through(&mut self, boards: &[Board]) -> Result<usize> {
+        tell_waits(self.rt, boards)?;
+        self.go_round(boards)?;
+        Ok(self.done.len())
     }
 }
 
@@ -217,21 +205,6 @@ fn tell_failure<R: AllocGlobal + Eprint>(rt: &R, told: &mut String, error: Error
         *told = text;
     }
     Ok(())
-}
-
-// Goes once round the boards. Where the lobby or its server is gone it is tried again.
-fn go_once<R>(rt: &R, rounds: &mut Rounds<'_>, boards: &[Board], told: &mut String) -> Result<()>
-where
-    R: Net<Stream = TcpStream> + RandomSource + AllocGlobal + Clock + Clone + Drop + Print + Eprint,
-{
-    match rounds.go_on(rt, boards) {
-        Ok(()) => {
-            told.clear();
-            Ok(())
-        }
-        Err(error) if rounds.has_failed() => Err(error),
-        Err(error) => tell_failure(rt, told, error),
-    }
 }
 
 // Tells that a board waits for its start.
@@ -267,22 +240,6 @@ fn tell_others<R: Eprint>(rt: &R, pairings: &[Pairing]) -> Result<()> {
                 format_args!("board {board} has no times: no game is opened for it"),
             )?;
         }
-    }
-    Ok(())
-}
-
-// Goes round the boards until each has its game or is the arbiter's.
-fn go_round<R>(rt: &R, rounds: &mut Rounds<'_>, boards: &[Board]) -> Result<()>
-where
-    R: Net<Stream = TcpStream> + RandomSource + AllocGlobal + Clock + Clone + Drop + Print + Eprint,
-{
-    let mut told = String::new(rt.alloc());
-    for _ in 0..u64::MAX {
-        go_once(rt, rounds, boards, &mut told)?;
-        if rounds.asks.len().saturating_add(rounds.done.len()) >= boards.len() {
-            return Ok(());
-        }
-        thread::sleep(rt, Duration::from_millis(PAUSE));
     }
     Ok(())
 }
@@ -342,25 +299,20 @@ fn file_of<R: Files<File = File> + AllocGlobal + Eprint>(
 }
 
 // Nothing has become of boards yet.
-fn rounds_of<'a>(alloc: Global, arbiter: Arbiter<'a>, file: RoundFile) -> Rounds<'a> {
+fn rounds_of<'a, R: AllocGlobal>(
+    rt: &'a R,
+    arbiter: Arbiter<'a>,
+    file: RoundFile,
+) -> Rounds<'a, R> {
     Rounds {
+        rt,
         arbiter,
         file,
-        asks: Vec::new(alloc),
-        done: Vec::new(alloc),
+        asks: Vec::new(rt.alloc()),
+        done: Vec::new(rt.alloc()),
         is_unheard: false,
         is_barred: false,
     }
-}
-
-// Goes round the boards to the end, and tells how many have their games.
-fn go_through<R>(rt: &R, rounds: &mut Rounds<'_>, boards: &[Board]) -> Result<usize>
-where
-    R: Net<Stream = TcpStream> + RandomSource + AllocGlobal + Clock + Clone + Drop + Print + Eprint,
-{
-    tell_waits(rt, boards)?;
-    go_round(rt, rounds, boards)?;
-    Ok(rounds.done.len())
 }
 
 // Opens the games of boards, and tells how many have theirs.
@@ -386,8 +338,8 @@ where
         lobby: starting.lobby,
         token: token.as_str(),
     };
-    let mut rounds = rounds_of(rt.alloc(), arbiter, file);
-    go_through(rt, &mut rounds, boards)
+    let mut rounds = rounds_of(rt, arbiter, file);
+    rounds.go_through(boards)
 }
 
 // Tells how many boards have their games. It fails where not all have.
@@ -399,27 +351,8 @@ fn tell_end<R: Print>(rt: &R, boards: usize, games: usize) -> Result<()> {
     Ok(())
 }
 
-// The games of boards are opened, by what the round's file has; which boards have none is told before.
-fn start_boards<R>(rt: &R, starting: &Starting<'_>, pairings: &[Pairing]) -> Result<()>
-where
-    R: Files<File = File>
-        + Net<Stream = TcpStream>
-        + RandomSource
-        + AllocGlobal
-        + Clock
-        + Clone
-        + Drop
-        + Print
-        + Eprint,
-{
-    let boards = boards_of(rt.alloc(), pairings, starting.said.takes.as_slice())?;
-    let file = file_of(rt, starting, pairings, boards.as_slice())?;
-    tell_others(rt, pairings)?;
-    let games = open_games(rt, starting, file, boards.as_slice())?;
-    tell_end(rt, boards.len(), games)
-}
-
-/// Opens the game of each board that has times at its start, and notes which it is.
+/// Opens the game of each board that has times at its start, by what the round's file has, and notes which it is; which
+/// boards have none is told before.
 pub fn start<R>(rt: &R, starting: &Starting<'_>) -> Result<()>
 where
     R: Files<File = File>
@@ -434,5 +367,13 @@ where
 {
     let pairings = pairings_of(rt, starting.round.pairings)?;
     check_pairings(rt, starting, pairings.as_slice())?;
-    start_boards(rt, starting, pairings.as_slice())
+    let boards = boards_of(
+        rt.alloc(),
+        pairings.as_slice(),
+        starting.said.takes.as_slice(),
+    )?;
+    let file = file_of(rt, starting, pairings.as_slice(), boards.as_slice())?;
+    tell_others(rt, pairings.as_slice())?;
+    let games = open_games(rt, starting, file, boards.as_slice())?;
+    tell_end(rt, boards.len(), games)
 }
