@@ -226,10 +226,7 @@ impl Browser {
         ensures { IsTrue result ↔ IsOver self.now.stage }
     {
         match &self.stage {
-            Stage::Http(connection) => match connection.state() {
-                State::Open => false,
-                _ => true,
-            },
+            Stage::Http(connection) => !matches!(connection.state(), State::Open),
             Stage::Socket(socket) => socket.is_over(),
             Stage::Over => true,
         }
