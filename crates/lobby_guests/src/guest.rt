@@ -436,7 +436,7 @@ impl<S> Guest<S> {
         if !self.has_more || self.is_lost || !self.is_free() || !self.may_speak(talk) {
             return Ok(false);
         }
-        match self.browser.next() {
+        match self.browser.hear() {
             None => {
                 self.has_more = false;
                 // (what waits in its socket may be read now)
