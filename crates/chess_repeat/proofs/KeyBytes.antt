@@ -12,6 +12,7 @@ use Rattle.chess_bits.specs.Square.{square_at}
 use Rattle.chess_bits.specs.Man.{Man}
 use Rattle.chess_bits.proofs.TableLemmas.{at-square_at}
 use Rattle.chess_board.specs.Position.{Position, Placement, Rights, man_at}
+use Rattle.chess_repeat.proofs.CodeBits.{here_code-below}
 use Rattle.chess_repeat.specs.Key.{here_code, code_at, men_byte, men_bytes, side_bit, state_byte, target_byte, key_of}
 
 -- What stands is read from its code.
@@ -42,21 +43,6 @@ here_back-code (Some (Black, King)) = refl
 
 here_code-same : (a b : Option Man) → here_code a ≡ here_code b → a ≡ b
 here_code-same a b e = sym (here_back-code a) ∙ ap here_back e ∙ here_back-code b
-
-pub here_code-below : (here : Option Man) → here_code here < 16
-here_code-below None = omega arith
-here_code-below (Some (White, Pawn)) = omega arith
-here_code-below (Some (White, Knight)) = omega arith
-here_code-below (Some (White, Bishop)) = omega arith
-here_code-below (Some (White, Rook)) = omega arith
-here_code-below (Some (White, Queen)) = omega arith
-here_code-below (Some (White, King)) = omega arith
-here_code-below (Some (Black, Pawn)) = omega arith
-here_code-below (Some (Black, Knight)) = omega arith
-here_code-below (Some (Black, Bishop)) = omega arith
-here_code-below (Some (Black, Rook)) = omega arith
-here_code-below (Some (Black, Queen)) = omega arith
-here_code-below (Some (Black, King)) = omega arith
 
 -- two digits to base 16
 low_same : (a b c d : ℕ) → a < 16 → c < 16 → a + 16 * b ≡ c + 16 * d → a ≡ c

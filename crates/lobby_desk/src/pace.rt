@@ -8,18 +8,18 @@ const COST: u64 = 50;
 const AHEAD: u64 = 950;
 
 /// Until when the time of a connection is taken after a message; as before where that comes too fast.
-pub fn until_after(until: u64, now: u64) -> u64
-    ensures { result ≡ until_after until now }
+pub fn until_after(until: u64, at: u64) -> u64
+    ensures { result ≡ until_after until at }
 {
-    paced(until, now).unwrap_or(until)
+    paced(until, at).unwrap_or(until)
 }
 
 /// Until when the time of a connection is taken after a message that comes at a moment; `None` where it comes too fast.
-pub fn paced(until: u64, now: u64) -> Option<u64>
-    ensures { result ≡ paced until now }
+pub fn paced(until: u64, at: u64) -> Option<u64>
+    ensures { result ≡ paced until at }
 {
-    let from = until.max(now);
-    if from - now <= AHEAD && from <= u64::MAX - COST {
+    let from = until.max(at);
+    if from - at <= AHEAD && from <= u64::MAX - COST {
         Some(from + COST)
     } else {
         None
@@ -27,8 +27,8 @@ pub fn paced(until: u64, now: u64) -> Option<u64>
 }
 
 /// Whether a message that comes at a moment does not come too fast.
-pub fn is_in_time(until: u64, now: u64) -> bool
-    ensures { result ≡ not (is_too_fast until now) }
+pub fn is_in_time(until: u64, at: u64) -> bool
+    ensures { result ≡ not (is_too_fast until at) }
 {
-    paced(until, now).is_some()
+    paced(until, at).is_some()
 }

@@ -172,8 +172,8 @@ impl<S> Guest<S> {
         self.has_more || self.can_read && self.browser.wants_read()
     }
 
-    /// Whether something may have come of one that acts for nobody for which its time is not taken too far ahead, and
-    /// nothing waits for it.
+    /// Whether it is the turn of this connection, which acts for nobody, by its time: something may have come, nothing
+    /// waits for it, and its time is not taken too far ahead.
     pub fn is_due(&self, at: u64) -> bool
         ensures { IsTrue result ↔ IsDue at self.now }
     {
@@ -214,8 +214,7 @@ impl<S> Guest<S> {
         self.has_more || self.can_read
     }
 
-    /// The moment from which on what comes next of it is taken, where that is behind this one, and something may have
-    /// come.
+    /// From which moment on its next message is taken; `None` where that is now, or nothing may have come.
     pub fn due_at(&self, at: u64) -> Option<u64>
         ensures { result ≡ due_at at self.now }
     {
@@ -277,10 +276,7 @@ impl<S> Guest<S> {
     fn player(&self, talk: &Talk) -> Option<Name>
         ensures { result ≡ player_of talk.now.desk self.now.number }
     {
-        match self.number {
-            None => None,
-            Some(number) => talk.desk().player_at(number),
-        }
+        talk.desk().player_at(self.number?)
     }
 
     /// Who pays for its acts, as a number: the player for whom it acts; 0 where it acts for nobody.
@@ -324,7 +320,7 @@ impl<S> Guest<S> {
         }
     }
 
-    /// It is to be closed where this is its place and has nobody any more.
+    /// Closes it at once, where its place was given up.
     pub fn yield_to(&mut self, place: &Place)
         ensures { Yields place.now self.old self.new }
     {
@@ -440,7 +436,7 @@ impl<S> Guest<S> {
         if !self.has_more || self.is_lost || !self.is_free() || !self.may_speak(talk) {
             return Ok(false);
         }
-        match self.browser.next() {
+        match self.browser.hear() {
             None => {
                 self.has_more = false;
                 // (what waits in its socket may be read now)
@@ -508,9 +504,7 @@ impl<S> Guest<S> {
     {
         let one = Waiting::copy_of(alloc, made, at)?;
         self.waits.push(one)?;
-        if self.waits.len() > WAITING_MOST {
-            self.is_lost = true;
-        }
+        self.is_lost |= self.waits.len() > WAITING_MOST;
         Ok(())
     }
 

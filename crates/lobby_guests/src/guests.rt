@@ -73,8 +73,8 @@ fn is_answered(asker: Option<u64>, talk: &Talk) -> bool
     }
 }
 
-// Whether a player's browser in whose front no act stands has its turn; then it has it: in the round of those that ask
-// for little, or of those that may ask for much.
+// Whether a player's browser in whose front no act stands is asked now: where it may be asked and the round of those
+// that ask for little, or of those that may ask for much, has a turn left, which it takes then.
 fn takes_turn<S>(guest: &Guest<S>, asks: &mut Asks, talk: &Talk) -> bool
     ensures { TakesTurn result talk.now.desk guest.now asks.old asks.new }
 {
@@ -91,8 +91,8 @@ fn takes_turn<S>(guest: &Guest<S>, asks: &mut Asks, talk: &Talk) -> bool
     true
 }
 
-// Whether it is the turn of a player's browser: where an act stands in front at once, or nothing does, as of one to
-// whom something was written; and else where one is left; then it has it.
+// Whether a player's browser is asked now, be it for an act or not: always where an act stands in front, or nothing
+// came, as of one to whom something was written; else where one of the two rounds has a turn left, which it takes then.
 fn has_turn<S>(guest: &Guest<S>, asks: &mut Asks, talk: &Talk) -> bool
     ensures { HasTurn result talk.now.desk guest.now asks.old asks.new }
 {
@@ -103,7 +103,8 @@ fn has_turn<S>(guest: &Guest<S>, asks: &mut Asks, talk: &Talk) -> bool
     has_act(unread) || takes_turn(guest, asks, talk)
 }
 
-// The same where an act may stand in front: if its player may act, who pays for it if it may be taken.
+// Whether a player's browser in whose front an act may stand is asked now: where its player may act and it has its
+// turn; the player pays for the act if that may be taken.
 fn has_paid_turn<S>(
     guest: &Guest<S>,
     asks: &mut Asks,
@@ -203,7 +204,8 @@ fn attend_players<S: Read + Write, K: KeepsLinks>(
 ) -> Result<bool, AllocError>
     ensures turned { OnOk result ((is_free : Bool) × (IsTrue is_free ↔ IsAnswered talk.old.desk asks.old.asker)
         × (said : Asking) × InTurn (IsPlayersTurn S.remaining site.now at) guests.old.items guests.new.items
-        (full_asking is_free (next_name guests.old.items) talk.old asks.old) said × (room_of talk.new asks.new ≡ asking_over said)) }
+        (full_asking is_free (next_name guests.old.items) talk.old asks.old) said
+        × (room_of talk.new asks.new ≡ asking_over said)) }
     ensures brief { IfOk result (λ any. has_later asks.new.brief ≡ true → any ≡ true) }
     ensures long { IfOk result (λ any. IsAnswered talk.old.desk asks.old.asker → has_later asks.new.long ≡ true
         → any ≡ true) }
@@ -367,10 +369,7 @@ fn first_wanted<S>(guests: &[Guest<S>]) -> Option<&Waiting>
 fn wanted_text<S>(guests: &[Guest<S>]) -> Option<&str>
     ensures { option_map (λ text. text.now) result ≡ wanted_text guests.now }
 {
-    match first_wanted(guests) {
-        None => None,
-        Some(one) => Some(one.text.as_str()),
-    }
+    Some(first_wanted(guests)?.text.as_str())
 }
 
 // The first who waits for this answer first is told it.
@@ -415,8 +414,7 @@ fn answer_waiting<S>(
 pub fn has_waiting<S>(guests: &[Guest<S>], talk: &Talk) -> bool
     ensures { result ≡ has_waiting guests.now talk.now }
 {
-    let has_first = first_wanted(guests).is_some();
-    talk.is_replaying() | has_first
+    talk.is_replaying() || first_wanted(guests).is_some()
 }
 
 /// Those who are told something are told it, or it waits behind an answer to `line G` that is not there yet; and the

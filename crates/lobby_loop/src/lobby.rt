@@ -415,6 +415,7 @@ impl Lobby {
         let is_short = at < self.short_until;
         let has_turned = self.hall.turn(at, is_short, log, links)?;
         self.short_until = short_after(self.short_until, at);
+        // (by `||` the prover goes through each clause twice)
         Ok(self.turned(has_reached | has_turned, at))
     }
 
@@ -437,7 +438,7 @@ impl Lobby {
     {
         self.has_more |= has_listener(&self.events);
         let is_awake = wake_each(&self.events, &mut self.hall);
-        self.is_awake |= is_awake | self.events.is_empty();
+        self.is_awake |= is_awake || self.events.is_empty();
     }
 
     /// So many milliseconds it may rest on at a moment, where turns are short and since the last one nothing happened

@@ -45,7 +45,7 @@ const A_PLAYER_MOST: usize = 16;
 fn most_nameless(players: usize) -> usize
     ensures { result ≡ most_nameless players }
 {
-    1_000usize.saturating_sub(players).min(600).max(40)
+    1_000usize.saturating_sub(players).clamp(40, 600)
 }
 
 // Whether a connection is at this address, where one is named.

@@ -69,7 +69,7 @@ fn seat_all<S>(
 {
     let places = places_of(alloc, guests.as_slice(), talk)?;
     let mut owned = own(alloc, places.as_slice())?;
-    Ok(seat_at(alloc, guests, owned.as_mut_slice(), at, from)?)
+    seat_at(alloc, guests, owned.as_mut_slice(), at, from)
 }
 
 /// Where it is due, those are to be closed who are to make room at a moment, in milliseconds. Whoever came before the
@@ -85,7 +85,7 @@ pub fn seat_if<S>(
     ensures { OnOk result (AreSeatedIf is_due at from talk.now.desk guests.old.items guests.new.items) }
 {
     if is_due {
-        Ok(seat_all(alloc, guests, talk, at, from)?)
+        seat_all(alloc, guests, talk, at, from)
     } else {
         Ok(0)
     }

@@ -37,11 +37,11 @@ fn is_answered(
     visitors: &BTreeMap<u64, Visitor>,
     other: &str,
     text: &str,
-    now: u64,
+    at: u64,
 ) -> bool
-    ensures { result ≡ spec.is_answered (who_in visitors.now) other.now text.now now (spec.offered offer.now) }
+    ensures { result ≡ spec.is_answered (who_in visitors.now) other.now text.now at (spec.offered offer.now) }
 {
-    offer.text.as_str() == text && offer.by.as_str() == other && stands(offer, visitors, now)
+    offer.text.as_str() == text && offer.by.as_str() == other && stands(offer, visitors, at)
 }
 
 // Whether a message takes one of these offers of the other player's.
@@ -50,14 +50,14 @@ fn takes_any(
     visitors: &BTreeMap<u64, Visitor>,
     other: &str,
     text: &str,
-    now: u64,
+    at: u64,
 ) -> bool
-    ensures { result ≡ list_any (λ (o : Offer). spec.is_answered (who_in visitors.now) other.now text.now now
+    ensures { result ≡ list_any (λ (o : Offer). spec.is_answered (who_in visitors.now) other.now text.now at
         (spec.offered o)) offers.now }
 {
     offers
         .iter()
-        .any(|offer| is_answered(offer, visitors, other, text, now))
+        .any(|offer| is_answered(offer, visitors, other, text, at))
 }
 
 // Whether the two players agree, by a message of one and the offers of the other.
@@ -66,11 +66,11 @@ fn is_agreed(
     visitors: &BTreeMap<u64, Visitor>,
     other: &str,
     text: &str,
-    now: u64,
+    at: u64,
 ) -> bool
-    ensures { result ≡ spec.is_agreed (who_in visitors.now) other.now text.now now (map spec.offered offers.now) }
+    ensures { result ≡ spec.is_agreed (who_in visitors.now) other.now text.now at (map spec.offered offers.now) }
 {
-    takes_any(offers, visitors, other, text, now)
+    takes_any(offers, visitors, other, text, at)
 }
 
 // What a message of a player is.
@@ -80,16 +80,16 @@ fn accord_with(
     offers: &[Offer],
     who: &Identity,
     text: &str,
-    now: u64,
+    at: u64,
 ) -> Accord
-    ensures { result ≡ spec.accord_by players.now (who_in visitors.now) (Some who.now) text.now now
+    ensures { result ≡ spec.accord_by players.now (who_in visitors.now) (Some who.now) text.now at
         (map spec.offered offers.now) }
 {
     if !may_offer(players, who, text) {
         return Accord::Nothing;
     }
     let other = other_party(who.name.as_str(), text);
-    if is_agreed(offers, visitors, other, text, now) {
+    if is_agreed(offers, visitors, other, text, at) {
         Accord::Agreed
     } else {
         Accord::Offered
@@ -104,12 +104,12 @@ pub fn accord_of(
     offers: &[Offer],
     who: &Option<Identity>,
     text: &str,
-    now: u64,
+    at: u64,
 ) -> Accord
-    ensures { result ≡ spec.accord_by players.now (who_in visitors.now) who.now text.now now
+    ensures { result ≡ spec.accord_by players.now (who_in visitors.now) who.now text.now at
         (map spec.offered offers.now) }
 {
     who.as_ref().map_or(Accord::Nothing, |who| {
-        accord_with(players, visitors, offers, who, text, now)
+        accord_with(players, visitors, offers, who, text, at)
     })
 }

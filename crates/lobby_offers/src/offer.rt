@@ -42,9 +42,9 @@ pub fn other_party<'a>(name: &str, text: &'a str) -> &'a str
 }
 
 /// Whether an offer still stands at a moment.
-pub fn stands(offer: &Offer, visitors: &BTreeMap<u64, Visitor>, now: u64) -> bool
-    ensures { result ≡ spec.stands (who_in visitors.now) now (spec.offered offer.now) }
+pub fn stands(offer: &Offer, visitors: &BTreeMap<u64, Visitor>, at: u64) -> bool
+    ensures { result ≡ spec.stands (who_in visitors.now) at (spec.offered offer.now) }
 {
     let who = who_acts(visitors, offer.from);
-    is_named(&who, offer.by.as_str()) && now.saturating_sub(offer.at) <= STANDS_MOST
+    is_named(&who, offer.by.as_str()) && at.saturating_sub(offer.at) <= STANDS_MOST
 }

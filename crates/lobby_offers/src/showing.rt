@@ -13,20 +13,20 @@ use std::alloc::{AllocError, Global};
 use std::collections::BTreeMap;
 
 // Whether a player is told an offer.
-fn is_shown(offer: &Offer, visitors: &BTreeMap<u64, Visitor>, name: &str, now: u64) -> bool
-    ensures { result ≡ spec.is_shown (who_in visitors.now) name.now now (spec.offered offer.now) }
+fn is_shown(offer: &Offer, visitors: &BTreeMap<u64, Visitor>, name: &str, at: u64) -> bool
+    ensures { result ≡ spec.is_shown (who_in visitors.now) name.now at (spec.offered offer.now) }
 {
-    is_party(name, offer.text.as_str()) && stands(offer, visitors, now)
+    is_party(name, offer.text.as_str()) && stands(offer, visitors, at)
 }
 
 // How many offers a player is told.
-fn count_shown(offers: &[Offer], visitors: &BTreeMap<u64, Visitor>, name: &str, now: u64) -> usize
-    ensures { result ≡ length (filter (λ (o : Offer). spec.is_shown (who_in visitors.now) name.now now
+fn count_shown(offers: &[Offer], visitors: &BTreeMap<u64, Visitor>, name: &str, at: u64) -> usize
+    ensures { result ≡ length (filter (λ (o : Offer). spec.is_shown (who_in visitors.now) name.now at
         (spec.offered o)) offers.now) }
 {
     offers
         .iter()
-        .filter(|offer| is_shown(offer, visitors, name, now))
+        .filter(|offer| is_shown(offer, visitors, name, at))
         .count()
 }
 
@@ -56,15 +56,15 @@ fn rows_text(
     offers: &[Offer],
     visitors: &BTreeMap<u64, Visitor>,
     name: &str,
-    now: u64,
+    at: u64,
 ) -> Result<String, AllocError>
     ensures { IfOk result (λ text. string_bytes text
-        ≡ spec.offers_text (who_in visitors.now) name.now now (map spec.offered offers.now)) }
+        ≡ spec.offers_text (who_in visitors.now) name.now at (map spec.offered offers.now)) }
 {
-    let count = count_shown(offers, visitors, name, now);
+    let count = count_shown(offers, visitors, name, at);
     let mut text = headed(alloc, "ok offers ", count as u64)?;
     for offer in offers {
-        let is_so = is_shown(offer, visitors, name, now);
+        let is_so = is_shown(offer, visitors, name, at);
         push_if(&mut text, is_so, offer)?;
     }
     Ok(text)
@@ -76,10 +76,10 @@ pub fn offers_text(
     offers: &[Offer],
     visitors: &BTreeMap<u64, Visitor>,
     who: &Identity,
-    now: u64,
+    at: u64,
 ) -> Result<String, AllocError>
     ensures { IfOk result (λ text. string_bytes text
-        ≡ spec.offers_text (who_in visitors.now) who.now.name now (map spec.offered offers.now)) }
+        ≡ spec.offers_text (who_in visitors.now) who.now.name at (map spec.offered offers.now)) }
 {
-    rows_text(alloc, offers, visitors, who.name.as_str(), now)
+    rows_text(alloc, offers, visitors, who.name.as_str(), at)
 }

@@ -1,13 +1,12 @@
 -- Players that are the same.
-use Rattle.std.proofs.Common.{ℕ, ◌≡◌, ◌≢◌, ◌<◌, ◌≤◌, ◌+◌, Bool, true, false, not, ◌&&◌, List, [], ◌∷◌, ◌++◌, length, get_or, take, refl, sym, ap, ◌∙◌, arith}
+use Rattle.std.proofs.Common.{ℕ, ◌≡◌, ◌≢◌, Bool, true, false, not, ◌&&◌, List, [], ◌∷◌, length, refl, sym, ap, ◌∙◌, arith}
 use Rattle.std.specs.Prelude.{◌==◌}
 use Rattle.std.specs.Str.{bytes_eq}
 use Rattle.std.specs.String.{string_bytes}
 use Rattle.std.specs.List.{list_all, zip}
 use Rattle.std.proofs.lemmas.Bool.{false≢true, not-true, and_from, and_parts}
 use Rattle.std.proofs.lemmas.Bool.Decides.{Decides-eqb}
-use Rattle.std.proofs.lemmas.List.{length-map, length-take-le, take_more}
-use Rattle.std.proofs.lemmas.List.Folds.{list_all-append}
+use Rattle.std.proofs.lemmas.List.{length-map}
 use Rattle.std.proofs.lemmas.Slice.Eq.{bytes_eq-Decides}
 use Rattle.lobby_words.specs.declared.players.Player.{Player}
 use Rattle.lobby_players.specs.File.{Entry, entry_of, entries_of}
@@ -97,40 +96,3 @@ other_entries some others is_not is =
     let len : length some ≡ length others = sym (length-map some entry_of) ∙ (ap length is ∙ length-map others entry_of) in
     false≢true (sym is_not ∙ and_from (length some == length others) (list_all same_pair (zip some others))
     ((Decides-eqb (length some) (length others)).1 len) (entries_all some others is))
-
--- ---- a pair more
-
-zip_push : (a b : List Player) (x y : Player) → length a ≡ length b → zip (a ++ x ∷ []) (b ++ y ∷ []) ≡ zip a b ++ (x, y) ∷ []
-zip_push [] [] x y len = refl
-zip_push [] (d ∷ b) x y len = absurd (omega (arith, len))
-zip_push (c ∷ a) [] x y len = absurd (omega (arith, len))
-zip_push (c ∷ a) (d ∷ b) x y len =
-    let rest : length a ≡ length b = omega (arith, len) in
-    ap (λ (ps : List (Player × Player)). (c, d) ∷ ps) (zip_push a b x y rest)
-
-and_one : (a b : Bool) → (a && (b && true)) ≡ (a && b)
-and_one true true = refl
-and_one true false = refl
-and_one false b = refl
-
-pub pairs_more : (some others : List Player) (i : ℕ) (x y : Player) (before now is : Bool) → i < length some → i < length others →
-    x ≡ get_or some i x → y ≡ get_or others i y → before ≡ list_all same_pair (zip (take i some) (take i others)) →
-    is ≡ is_same_player x y → now ≡ (before && is) → now ≡ list_all same_pair (zip (take (i + 1) some) (take (i + 1) others))
-pairs_more some others i x y before now is below inside first second told same both =
-    let a = take i some in
-    let b = take i others in
-    let one : take (i + 1) some ≡ take i some ++ x ∷ [] =
-    take_more some i x below ∙ ap (λ (p : Player). take i some ++ p ∷ []) (sym first) in
-    let two : take (i + 1) others ≡ take i others ++ y ∷ [] =
-    take_more others i y inside ∙ ap (λ (p : Player). take i others ++ p ∷ []) (sym second) in
-    let within_a : i ≤ length some = omega arith in
-    let within_b : i ≤ length others = omega arith in
-    let lens : length (take i some) ≡ length (take i others) = length-take-le i some within_a ∙ sym (length-take-le i others within_b) in
-    both
-    ∙ (ap (λ (v : Bool). v && is) told
-    ∙ (ap (λ (v : Bool). list_all same_pair (zip a b) && v) same
-    ∙ (sym (and_one (list_all same_pair (zip a b)) (is_same_player x y))
-    ∙ (sym (list_all-append same_pair (zip a b) ((x, y) ∷ []))
-    ∙ (sym (ap (list_all same_pair) (zip_push a b x y lens))
-    ∙ (ap (λ (ps : List Player). list_all same_pair (zip ps (b ++ y ∷ []))) (sym one)
-    ∙ ap (λ (ps : List Player). list_all same_pair (zip (take (i + 1) some) ps)) (sym two)))))))

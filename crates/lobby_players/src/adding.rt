@@ -141,8 +141,7 @@ pub fn text_with(
     let mut line = String::new(alloc);
     push_player(&mut line, alloc, who, sum)?;
     let shown = line.as_str();
-    let new = with_line(alloc, text, who.name, shown)?;
-    Ok(new)
+    with_line(alloc, text, who.name, shown)
 }
 
 /// The text of the file with the player's line: in the place of the line that had the name, so that a player who is
@@ -159,14 +158,8 @@ pub fn added(
         (string_bytes new.text) new.is_new) }
     ensures fault { IfErr result (IsAddFault text.now (entry_added who.now token.now)) }
 {
-    let text = match text_of(text) {
-        Ok(text) => text,
-        Err(fault) => return Err(AddFault::File(fault)),
-    };
-    let players = match read_text(alloc, text) {
-        Ok(players) => players,
-        Err(fault) => return Err(AddFault::File(fault)),
-    };
+    let text = text_of(text)?;
+    let players = read_text(alloc, text)?;
     let Some(name) = Name::try_new(who.name) else {
         return Err(AddFault::BadName);
     };

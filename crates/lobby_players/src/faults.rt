@@ -80,6 +80,14 @@ pub enum AddFault {
     NoMemory,
 }
 
+impl From<PlayersFault> for AddFault {
+    ghost from_gives = { λ fault whole. whole ≡ add_faults.File fault };
+
+    fn from(fault: PlayersFault) -> AddFault {
+        AddFault::File(fault)
+    }
+}
+
 impl From<AllocError> for AddFault {
     ghost from_gives = { λ _ fault. fault ≡ add_faults.NoMemory };
 
@@ -105,6 +113,14 @@ pub enum LinkFault {
     NoMemory,
 }
 
+impl From<PlayersFault> for LinkFault {
+    ghost from_gives = { λ fault whole. whole ≡ link_faults.File fault };
+
+    fn from(fault: PlayersFault) -> LinkFault {
+        LinkFault::File(fault)
+    }
+}
+
 impl From<AllocError> for LinkFault {
     ghost from_gives = { λ _ fault. fault ≡ link_faults.NoMemory };
 
@@ -125,6 +141,14 @@ pub enum JoinFault {
     NameTaken,
     #[error("memory was refused")]
     NoMemory,
+}
+
+impl From<AddFault> for JoinFault {
+    ghost from_gives = { λ fault whole. whole ≡ join_faults.Add fault };
+
+    fn from(fault: AddFault) -> JoinFault {
+        JoinFault::Add(fault)
+    }
 }
 
 impl From<AllocError> for JoinFault {

@@ -85,10 +85,7 @@ pub fn joined(
         full_name,
         is_arbiter: false,
     };
-    let new = match added(alloc, text, &who, token) {
-        Ok(new) => new,
-        Err(fault) => return Err(JoinFault::Add(fault)),
-    };
+    let new = added(alloc, text, &who, token)?;
     if !new.is_new {
         return Err(JoinFault::NameTaken);
     }
@@ -123,15 +120,11 @@ pub fn carried_out(
     ensures fault { IfErr result (IsOrderFault known.now order.now full_name.now token.now text.now) }
 {
     match order.change {
-        Change::NewPlayer => match joined(alloc, known, text, &order.name, full_name, token) {
-            Ok(new) => Ok(new),
-            Err(fault) => Err(OrderFault::Join(fault)),
-        },
+        Change::NewPlayer => {
+            joined(alloc, known, text, &order.name, full_name, token).map_err(OrderFault::Join)
+        }
         Change::NewLink | Change::NoLink => {
-            match relinked(alloc, known, text, &order.name, token) {
-                Ok(new) => Ok(new),
-                Err(fault) => Err(OrderFault::Link(fault)),
-            }
+            relinked(alloc, known, text, &order.name, token).map_err(OrderFault::Link)
         }
     }
 }

@@ -99,7 +99,7 @@ const HIDDEN: [(char, char); 19] = [
 fn is_from_to(first: char, last: char, c: char) -> bool
     ensures { result ≡ file.is_from_to first last c }
 {
-    first <= c && c <= last
+    (first..=last).contains(&c)
 }
 
 // Whether a character is in one of these rows.
@@ -120,7 +120,7 @@ fn is_seen(c: char) -> bool
 fn are_seen(text: &str) -> bool
     ensures { result ≡ list_all file.is_seen (chars text.now) }
 {
-    text.chars().all(|c| is_seen(c))
+    text.chars().all(is_seen)
 }
 
 // Whether a space stands only between two other bytes.
@@ -144,11 +144,11 @@ pub fn is_full_name(text: &str) -> bool
     ensures { result ≡ file.is_full_name text.now }
 {
     let bytes = text.as_bytes();
-    let short = !bytes.is_empty() && bytes.len() <= 100;
-    let shown = are_shown_bytes(bytes);
-    let spaced = is_spaced(bytes);
-    let seen = are_seen(text);
-    short & shown & spaced & seen
+    !bytes.is_empty()
+        && bytes.len() <= 100
+        && are_shown_bytes(bytes)
+        && is_spaced(bytes)
+        && are_seen(text)
 }
 
 // The player that fields tell.

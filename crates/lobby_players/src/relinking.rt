@@ -40,14 +40,11 @@ fn is_same_player(one: &Player, other: &Player) -> bool
 pub fn are_same_players(some: &[Player], others: &[Player]) -> bool
     ensures { result ≡ are_same_players some.now others.now }
 {
-    if some.len() != others.len() {
-        return false;
-    }
-    let mut same = true;
-    for i in 0..some.len() {
-        same = same & is_same_player(&some[i], &others[i]);
-    }
-    same
+    some.len() == others.len()
+        && some
+            .iter()
+            .zip(others.iter())
+            .all(|(one, other)| is_same_player(one, other))
 }
 
 // The sum of a player, where the player of a name has this one.
@@ -114,8 +111,7 @@ fn text_linked(
         full_name: player.full_name.as_str(),
         is_arbiter: player.is_arbiter,
     };
-    let new = text_with(alloc, text, &who, sum)?;
-    Ok(new)
+    text_with(alloc, text, &who, sum)
 }
 
 /// The file of these players in which the one of this name has this token, in the place of the one that he had: in
@@ -136,14 +132,8 @@ pub fn relinked(
     ensures token { IfOk result (λ new. string_bytes new.linked.token ≡ encode_lower token.now) }
     ensures fault { IfErr result (IsLinkFault known.now name.now (encode_lower token.now) text.now) }
 {
-    let text = match text_of(text) {
-        Ok(text) => text,
-        Err(fault) => return Err(LinkFault::File(fault)),
-    };
-    let found = match read_text(alloc, text) {
-        Ok(players) => players,
-        Err(fault) => return Err(LinkFault::File(fault)),
-    };
+    let text = text_of(text)?;
+    let found = read_text(alloc, text)?;
     if !are_same_players(found.as_slice(), known) {
         return Err(LinkFault::OtherPlayers);
     }

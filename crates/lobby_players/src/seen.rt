@@ -37,8 +37,7 @@ impl Seen {
         ensures sums { self.new.sums.keys ≡ self.old.sums.keys }
     {
         let small = name.as_str().to_ascii_lowercase(alloc)?;
-        let is_new = self.names.insert(small)?;
-        Ok(is_new)
+        Ok(self.names.insert(small)?)
     }
 
     /// Puts a sum down; whether it was not there.
@@ -47,7 +46,6 @@ impl Seen {
         ensures put { IfOk result (λ is_new. is_new ≡ true → self.new.sums.keys ≡ self.old.sums.keys ++ sum ∷ []) }
         ensures names { self.new.names.keys ≡ self.old.names.keys }
     {
-        let is_new = self.sums.insert(sum)?;
-        Ok(is_new)
+        Ok(self.sums.insert(sum)?)
     }
 }

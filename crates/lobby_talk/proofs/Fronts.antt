@@ -46,10 +46,12 @@ word_text text w is =
 
 -- ---- so it begins as the word does
 
-begins_with : (text w : List ℕ) → bytes_eq (word_of text) w ≡ true → 5 ≤ length text →
-    (5 ≤ length w → is_act (take 5 w) ≡ true) → ((rest : List ℕ) → is_act (take 5 (w ++ 32 ∷ rest)) ≡ true) →
-    is_act (take 5 text) ≡ true
-begins_with text w is long whole more =
+abbrev Begins : List ℕ → Bool → Type 0
+Begins text b = b ≡ true → 5 ≤ length text → is_act (take 5 text) ≡ true
+
+begins_with : (text w : List ℕ) → (5 ≤ length w → is_act (take 5 w) ≡ true) →
+    ((rest : List ℕ) → is_act (take 5 (w ++ 32 ∷ rest)) ≡ true) → Begins text (bytes_eq (word_of text) w)
+begins_with text w whole more = λ is long.
     elim (word_text text w ((bytes_eq-Decides (word_of text) w).0 is)) [
       | inl same ↦ subst (λ (l : List ℕ). is_act (take 5 l) ≡ true) (sym same)
           (whole (subst (λ (l : List ℕ). 5 ≤ length l) same long))
@@ -59,164 +61,69 @@ begins_with text w is long whole more =
 too_short : (w : List ℕ) (n : ℕ) → length w ≡ n → n < 5 → 5 ≤ length w → is_act (take 5 w) ≡ true
 too_short w n is few many = absurd (omega (arith, is, few, many))
 
-move_begins : (rest : List ℕ) → is_act (take 5 (codes "move" ++ 32 ∷ rest)) ≡ true
+by_move : (text : List ℕ) → Begins text (bytes_eq (word_of text) (codes "move"))
 unfolding is_act
-move_begins rest = refl
+by_move text = begins_with text (codes "move") (too_short (codes "move") 4 refl (omega arith)) (λ rest. refl)
 
-by_move : (text : List ℕ) → bytes_eq (word_of text) (codes "move") ≡ true → 5 ≤ length text → is_act (take 5 text) ≡ true
-by_move text is long =
-    begins_with text (codes "move") is long (too_short (codes "move") 4 refl (omega arith)) move_begins
-
-offer_alone : is_act (take 5 (codes "offer")) ≡ true
+by_offer : (text : List ℕ) → Begins text (bytes_eq (word_of text) (codes "offer"))
 unfolding is_act
-offer_alone = refl
+by_offer text = begins_with text (codes "offer") (λ _. refl) (λ rest. refl)
 
-offer_begins : (rest : List ℕ) → is_act (take 5 (codes "offer" ++ 32 ∷ rest)) ≡ true
+by_accept : (text : List ℕ) → Begins text (bytes_eq (word_of text) (codes "accept"))
 unfolding is_act
-offer_begins rest = refl
+by_accept text = begins_with text (codes "accept") (λ _. refl) (λ rest. refl)
 
-by_offer : (text : List ℕ) → bytes_eq (word_of text) (codes "offer") ≡ true → 5 ≤ length text → is_act (take 5 text) ≡ true
-by_offer text is long =
-    begins_with text (codes "offer") is long (λ _. offer_alone) offer_begins
-
-accept_alone : is_act (take 5 (codes "accept")) ≡ true
+by_decline : (text : List ℕ) → Begins text (bytes_eq (word_of text) (codes "decline"))
 unfolding is_act
-accept_alone = refl
+by_decline text = begins_with text (codes "decline") (λ _. refl) (λ rest. refl)
 
-accept_begins : (rest : List ℕ) → is_act (take 5 (codes "accept" ++ 32 ∷ rest)) ≡ true
+by_resign : (text : List ℕ) → Begins text (bytes_eq (word_of text) (codes "resign"))
 unfolding is_act
-accept_begins rest = refl
+by_resign text = begins_with text (codes "resign") (λ _. refl) (λ rest. refl)
 
-by_accept : (text : List ℕ) → bytes_eq (word_of text) (codes "accept") ≡ true → 5 ≤ length text → is_act (take 5 text) ≡ true
-by_accept text is long =
-    begins_with text (codes "accept") is long (λ _. accept_alone) accept_begins
-
-decline_alone : is_act (take 5 (codes "decline")) ≡ true
+by_claim : (text : List ℕ) → Begins text (bytes_eq (word_of text) (codes "claim"))
 unfolding is_act
-decline_alone = refl
+by_claim text = begins_with text (codes "claim") (λ _. refl) (λ rest. refl)
 
-decline_begins : (rest : List ℕ) → is_act (take 5 (codes "decline" ++ 32 ∷ rest)) ≡ true
+by_flag : (text : List ℕ) → Begins text (bytes_eq (word_of text) (codes "flag"))
 unfolding is_act
-decline_begins rest = refl
+by_flag text = begins_with text (codes "flag") (too_short (codes "flag") 4 refl (omega arith)) (λ rest. refl)
 
-by_decline : (text : List ℕ) → bytes_eq (word_of text) (codes "decline") ≡ true → 5 ≤ length text → is_act (take 5 text) ≡ true
-by_decline text is long =
-    begins_with text (codes "decline") is long (λ _. decline_alone) decline_begins
-
-resign_alone : is_act (take 5 (codes "resign")) ≡ true
+by_open : (text : List ℕ) → Begins text (bytes_eq (word_of text) (codes "open"))
 unfolding is_act
-resign_alone = refl
+by_open text = begins_with text (codes "open") (too_short (codes "open") 4 refl (omega arith)) (λ rest. refl)
 
-resign_begins : (rest : List ℕ) → is_act (take 5 (codes "resign" ++ 32 ∷ rest)) ≡ true
+by_join : (text : List ℕ) → Begins text (bytes_eq (word_of text) (codes "join"))
 unfolding is_act
-resign_begins rest = refl
+by_join text = begins_with text (codes "join") (too_short (codes "join") 4 refl (omega arith)) (λ rest. refl)
 
-by_resign : (text : List ℕ) → bytes_eq (word_of text) (codes "resign") ≡ true → 5 ≤ length text → is_act (take 5 text) ≡ true
-by_resign text is long =
-    begins_with text (codes "resign") is long (λ _. resign_alone) resign_begins
-
-claim_alone : is_act (take 5 (codes "claim")) ≡ true
+by_drop : (text : List ℕ) → Begins text (bytes_eq (word_of text) (codes "drop"))
 unfolding is_act
-claim_alone = refl
+by_drop text = begins_with text (codes "drop") (too_short (codes "drop") 4 refl (omega arith)) (λ rest. refl)
 
-claim_begins : (rest : List ℕ) → is_act (take 5 (codes "claim" ++ 32 ∷ rest)) ≡ true
+by_as : (text : List ℕ) → Begins text (bytes_eq (word_of text) (codes "as"))
 unfolding is_act
-claim_begins rest = refl
+by_as text = begins_with text (codes "as") (too_short (codes "as") 2 refl (omega arith)) (λ rest. refl)
 
-by_claim : (text : List ℕ) → bytes_eq (word_of text) (codes "claim") ≡ true → 5 ≤ length text → is_act (take 5 text) ≡ true
-by_claim text is long =
-    begins_with text (codes "claim") is long (λ _. claim_alone) claim_begins
-
-flag_begins : (rest : List ℕ) → is_act (take 5 (codes "flag" ++ 32 ∷ rest)) ≡ true
+by_pair : (text : List ℕ) → Begins text (bytes_eq (word_of text) (codes "pair"))
 unfolding is_act
-flag_begins rest = refl
+by_pair text = begins_with text (codes "pair") (too_short (codes "pair") 4 refl (omega arith)) (λ rest. refl)
 
-by_flag : (text : List ℕ) → bytes_eq (word_of text) (codes "flag") ≡ true → 5 ≤ length text → is_act (take 5 text) ≡ true
-by_flag text is long =
-    begins_with text (codes "flag") is long (too_short (codes "flag") 4 refl (omega arith)) flag_begins
-
-open_begins : (rest : List ℕ) → is_act (take 5 (codes "open" ++ 32 ∷ rest)) ≡ true
+by_login : (text : List ℕ) → Begins text (bytes_eq (word_of text) (codes "login"))
 unfolding is_act
-open_begins rest = refl
+by_login text = begins_with text (codes "login") (λ _. refl) (λ rest. refl)
 
-by_open : (text : List ℕ) → bytes_eq (word_of text) (codes "open") ≡ true → 5 ≤ length text → is_act (take 5 text) ≡ true
-by_open text is long =
-    begins_with text (codes "open") is long (too_short (codes "open") 4 refl (omega arith)) open_begins
-
-join_begins : (rest : List ℕ) → is_act (take 5 (codes "join" ++ 32 ∷ rest)) ≡ true
+by_offers : (text : List ℕ) → Begins text (bytes_eq (word_of text) (codes "offers"))
 unfolding is_act
-join_begins rest = refl
+by_offers text = begins_with text (codes "offers") (λ _. refl) (λ rest. refl)
 
-by_join : (text : List ℕ) → bytes_eq (word_of text) (codes "join") ≡ true → 5 ≤ length text → is_act (take 5 text) ≡ true
-by_join text is long =
-    begins_with text (codes "join") is long (too_short (codes "join") 4 refl (omega arith)) join_begins
-
-drop_begins : (rest : List ℕ) → is_act (take 5 (codes "drop" ++ 32 ∷ rest)) ≡ true
+by_unpair : (text : List ℕ) → Begins text (bytes_eq (word_of text) (codes "unpair"))
 unfolding is_act
-drop_begins rest = refl
-
-by_drop : (text : List ℕ) → bytes_eq (word_of text) (codes "drop") ≡ true → 5 ≤ length text → is_act (take 5 text) ≡ true
-by_drop text is long =
-    begins_with text (codes "drop") is long (too_short (codes "drop") 4 refl (omega arith)) drop_begins
-
-as_begins : (rest : List ℕ) → is_act (take 5 (codes "as" ++ 32 ∷ rest)) ≡ true
-unfolding is_act
-as_begins rest = refl
-
-by_as : (text : List ℕ) → bytes_eq (word_of text) (codes "as") ≡ true → 5 ≤ length text → is_act (take 5 text) ≡ true
-by_as text is long =
-    begins_with text (codes "as") is long (too_short (codes "as") 2 refl (omega arith)) as_begins
-
-pair_begins : (rest : List ℕ) → is_act (take 5 (codes "pair" ++ 32 ∷ rest)) ≡ true
-unfolding is_act
-pair_begins rest = refl
-
-by_pair : (text : List ℕ) → bytes_eq (word_of text) (codes "pair") ≡ true → 5 ≤ length text → is_act (take 5 text) ≡ true
-by_pair text is long =
-    begins_with text (codes "pair") is long (too_short (codes "pair") 4 refl (omega arith)) pair_begins
-
-login_alone : is_act (take 5 (codes "login")) ≡ true
-unfolding is_act
-login_alone = refl
-
-login_begins : (rest : List ℕ) → is_act (take 5 (codes "login" ++ 32 ∷ rest)) ≡ true
-unfolding is_act
-login_begins rest = refl
-
-by_login : (text : List ℕ) → bytes_eq (word_of text) (codes "login") ≡ true → 5 ≤ length text → is_act (take 5 text) ≡ true
-by_login text is long =
-    begins_with text (codes "login") is long (λ _. login_alone) login_begins
-
-offers_alone : is_act (take 5 (codes "offers")) ≡ true
-unfolding is_act
-offers_alone = refl
-
-offers_begins : (rest : List ℕ) → is_act (take 5 (codes "offers" ++ 32 ∷ rest)) ≡ true
-unfolding is_act
-offers_begins rest = refl
-
-by_offers : (text : List ℕ) → bytes_eq (word_of text) (codes "offers") ≡ true → 5 ≤ length text → is_act (take 5 text) ≡ true
-by_offers text is long =
-    begins_with text (codes "offers") is long (λ _. offers_alone) offers_begins
-
-unpair_alone : is_act (take 5 (codes "unpair")) ≡ true
-unfolding is_act
-unpair_alone = refl
-
-unpair_begins : (rest : List ℕ) → is_act (take 5 (codes "unpair" ++ 32 ∷ rest)) ≡ true
-unfolding is_act
-unpair_begins rest = refl
-
-by_unpair : (text : List ℕ) → bytes_eq (word_of text) (codes "unpair") ≡ true → 5 ≤ length text → is_act (take 5 text) ≡ true
-by_unpair text is long =
-    begins_with text (codes "unpair") is long (λ _. unpair_alone) unpair_begins
+by_unpair text = begins_with text (codes "unpair") (λ _. refl) (λ rest. refl)
 
 pub or_either : (a b : Bool) → (a || b) ≡ true → (a ≡ true) ⊎ (b ≡ true)
 or_either true b is = inl refl
 or_either false b is = inr is
-
-abbrev Begins : List ℕ → Bool → Type 0
-Begins text b = b ≡ true → 5 ≤ length text → is_act (take 5 text) ≡ true
 
 either : (text : List ℕ) (a b : Bool) → Begins text a → Begins text b → Begins text (a || b)
 either text a b one other = λ is long. elim (or_either a b is) [ inl so ↦ one so long | inr so ↦ other so long ]

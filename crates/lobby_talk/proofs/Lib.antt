@@ -9,3 +9,4 @@ mod Known
 pub mod Logging
 pub mod Keeping
 mod Replaying
+mod Unsent

@@ -265,14 +265,14 @@ fn send(alloc: Global, response: &mut Response, file: &File) -> Result<(), Alloc
     response.body.push(file.bytes.clone()?)
 }
 
-// That who asks has the file. (its media type is known there too)
+// Tells a browser that the file it has is the one that is served: no body, and no media type, which it knows.
 fn spare(alloc: Global, response: &mut Response, file: &File) -> Result<(), AllocError>
     requires { IsBlank response.old }
     ensures { OnOk result (IsResponse 304 (same_fields file.now) [] response.new) }
 {
     guard(response, StatusCode::NOT_MODIFIED)?;
     add_readers(response, file.kind)?;
-    Ok(add_value(alloc, response, "etag", file.tag.as_slice())?)
+    add_value(alloc, response, "etag", file.tag.as_slice())
 }
 
 // Whether an entity tag is a file's: one that packs its bytes on the way makes it a weak one.

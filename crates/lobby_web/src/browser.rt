@@ -221,15 +221,12 @@ impl Browser {
         }
     }
 
-    /// Whether the connection is to be closed, once what waits is written and `next` gives nothing.
+    /// Whether the connection is to be closed, once what waits is written and `hear` gives nothing.
     pub fn is_over(&self) -> bool
         ensures { IsTrue result ↔ IsOver self.now.stage }
     {
         match &self.stage {
-            Stage::Http(connection) => match connection.state() {
-                State::Open => false,
-                _ => true,
-            },
+            Stage::Http(connection) => !matches!(connection.state(), State::Open),
             Stage::Socket(socket) => socket.is_over(),
             Stage::Over => true,
         }
@@ -266,7 +263,7 @@ impl Browser {
 
     /// What came next: that the socket is open, or a text message. None where nothing more came that is whole, or it is
     /// over.
-    pub fn next(&mut self) -> Option<Heard>
+    pub fn hear(&mut self) -> Option<Heard>
         ensures { HearsNext self.old.stage self.new.stage result }
     {
         match &mut self.stage {

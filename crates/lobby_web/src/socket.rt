@@ -320,10 +320,7 @@ impl Socket {
             self.is_told = true;
             return Some(Heard::Opened);
         }
-        match self.next() {
-            Some(text) => Some(Heard::Text(text)),
-            None => None,
-        }
+        self.next().map(Heard::Text)
     }
 
     // Puts a message behind what waits to be written.

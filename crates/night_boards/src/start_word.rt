@@ -173,7 +173,8 @@ where
         Ok(())
     }
 
-    // The same, where a failure after which boards may be gone on with is kept, if it is the first.
+    // Goes on with a board over a connection. A failure after which boards may be gone on with is kept, if it is the
+    // first.
     fn go_on_at(
         &mut self,
         link: &mut Option<LobbyLink<'a, R>>,

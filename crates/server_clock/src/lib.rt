@@ -2,13 +2,12 @@
 //! games' clocks stand still.
 //!
 //! Modules: `pace` is the moment, as the readings of a clock move it on, `starting` the first one of a life, `steady` a
-//! clock of the system; `slots` has the bytes of a beat, with their `fields`, `beats` is the device of two sectors that
-//! keeps the last one; `beside` are the two files beside a journal, and `serving` is the clock over all of these.
+//! clock of the system; `slots` has the bytes of a beat, `beats` is the device of two sectors that keeps the
+//! last one; `beside` are the two files beside a journal, and `serving` is the clock over all of these.
 #![tactic(auto)]
 
 mod beats;
 mod beside;
-mod fields;
 mod pace;
 mod serving;
 mod slots;

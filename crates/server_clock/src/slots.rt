@@ -4,7 +4,7 @@ ghost use Rattle.server_clock.specs.declared.slots.Beat.{Beat};
 ghost use Rattle.server_clock.specs.Slots as spec;
 ghost use Rattle.rec_codec.specs.Field.{AllStand};
 
-use crate::fields::{put, put_u64, u64_at};
+use rec_codec::{put, put_u64, u64_at};
 use sha2::{Digest, Sha256};
 
 /// A beat of a server's clock.

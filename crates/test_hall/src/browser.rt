@@ -67,7 +67,7 @@ impl Lab {
     /// What the browser says is heard.
     pub fn hear(&mut self, rt: &impl Abort) {
         for _ in 0..MOST {
-            match self.browser.next() {
+            match self.browser.hear() {
                 None => return,
                 Some(Heard::Opened) => add(rt, &mut self.said, b"open\n"),
                 Some(Heard::Text(text)) => {

@@ -7,4 +7,4 @@ use Rattle.lobby_offers.proofs.accord.is_agreed.Goals as goal
 pub returns : goal.returns
 returns c =
     c.takes_any.ensures
-    ∙ any_seen offered (is_answered (who_in c.args.visitors.now) c.args.other.now c.args.text.now c.args.now) c.args.offers.now
+    ∙ any_seen offered (is_answered (who_in c.args.visitors.now) c.args.other.now c.args.text.now c.args.at) c.args.offers.now

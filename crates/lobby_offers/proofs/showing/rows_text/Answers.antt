@@ -9,7 +9,7 @@ use Rattle.lobby_offers.proofs.showing.rows_text.Goals as goal
 
 pub loop-offer-init : goal.loop-offer-init
 loop-offer-init c =
-    let test = is_shown (who_in c.args.visitors.now) c.args.name.now c.args.now in
+    let test = is_shown (who_in c.args.visitors.now) c.args.name.now c.args.at in
     let count = c.count_shown-count.ensures ∙ filter_length offered test c.args.offers.now in
     c.in_ok-text.ensures
     ∙ (ap (λ (n : ℕ). codes "ok offers " ++ decimal n ++ codes "\n") count
@@ -18,7 +18,7 @@ loop-offer-init c =
 pub loop-offer-preserved : goal.loop-offer-preserved
 loop-offer-preserved c =
     let offers = c.args.offers.now in
-    let test = is_shown (who_in c.args.visitors.now) c.args.name.now c.args.now in
+    let test = is_shown (who_in c.args.visitors.now) c.args.name.now c.args.at in
     let item = c.offer-item.result in
     c.in_ok-push_if.ensures
     ∙ (ap (λ (b : Bool). string_bytes c.loop-offer.text ++ flat_map offer_row (if b then offered item ∷ [] else [])) c.is_shown-is_so.ensures

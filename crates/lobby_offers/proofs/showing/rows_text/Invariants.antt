@@ -8,5 +8,5 @@ use Rattle.lobby_offers.proofs.showing.rows_text.Given as goal
 abbrev pub invariant-loop-offer : goal.invariant-loop-offer
 invariant-loop-offer l =
     string_bytes l.text
-    ≡ (codes "ok offers " ++ decimal (length (filter (is_shown (who_in l.visitors) l.name l.now) (map offered l.offers))) ++ codes "\n")
-    ++ flat_map offer_row (filter (is_shown (who_in l.visitors) l.name l.now) (map offered (take l.offer-index l.offers)))
+    ≡ (codes "ok offers " ++ decimal (length (filter (is_shown (who_in l.visitors) l.name l.at) (map offered l.offers))) ++ codes "\n")
+    ++ flat_map offer_row (filter (is_shown (who_in l.visitors) l.name l.at) (map offered (take l.offer-index l.offers)))

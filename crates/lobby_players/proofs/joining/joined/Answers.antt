@@ -28,15 +28,15 @@ returns-clause-file c =
     let text = c.args.text.now in
     let full = c.args.full_name.now in
     let token = c.args.token.now in
-    let new = string_bytes c.in-Ok-added.new.text in
+    let new = string_bytes c.in_ok-new.new.text in
     file_joined text new (entry_joined c.args.name.now full token) known c.in-Ok-read.players.items
     (subst (λ (es : List Entry). IsFileOf c.args.text.now es)
     (same_entries c.in-Ok.players.items c.args.known.now
     (ap (λ (ps : List Player). are_same_players ps c.args.known.now) (sym c.as_slice.ensures.value) ∙ sym c.if-not-are_same_players.ensures))
     c.in-Ok.ensures.players)
     (subst (λ (b : Bool). IsAdded text (entry_joined c.args.name.now full token) new b) c.if-not-new.false
-    (subst (λ (n : List ℕ). IsAdded text (entry_joined n full token) new c.in-Ok-added.new.is_new) c.as_str.ensures.text
-    c.in-Ok-added.ensures.added))
+    (subst (λ (n : List ℕ). IsAdded text (entry_joined n full token) new c.in_ok-new.new.is_new) c.as_str.ensures.text
+    c.in_ok-new.ensures.added))
     (subst (λ (t : List ℕ). IsFileOf t (entries_of c.in-Ok-read.players.items)) c.as_bytes.ensures.value c.in-Ok-read.ensures.players)
 
 pub returns-clause-players : goal.returns-clause-players
@@ -45,15 +45,15 @@ returns-clause-players c =
     let text = c.args.text.now in
     let full = c.args.full_name.now in
     let token = c.args.token.now in
-    let new = string_bytes c.in-Ok-added.new.text in
+    let new = string_bytes c.in_ok-new.new.text in
     players_joined text new (string_bytes c.in_ok-shown.shown) (entry_joined c.args.name.now full token) known c.in-Ok-read.players.items
     (subst (λ (es : List Entry). IsFileOf c.args.text.now es)
     (same_entries c.in-Ok.players.items c.args.known.now
     (ap (λ (ps : List Player). are_same_players ps c.args.known.now) (sym c.as_slice.ensures.value) ∙ sym c.if-not-are_same_players.ensures))
     c.in-Ok.ensures.players)
     (subst (λ (b : Bool). IsAdded text (entry_joined c.args.name.now full token) new b) c.if-not-new.false
-    (subst (λ (n : List ℕ). IsAdded text (entry_joined n full token) new c.in-Ok-added.new.is_new) c.as_str.ensures.text
-    c.in-Ok-added.ensures.added))
+    (subst (λ (n : List ℕ). IsAdded text (entry_joined n full token) new c.in_ok-new.new.is_new) c.as_str.ensures.text
+    c.in_ok-new.ensures.added))
     (subst (λ (t : List ℕ). IsFileOf t (entries_of c.in-Ok-read.players.items)) c.as_bytes.ensures.value c.in-Ok-read.ensures.players)
     (ap is_token c.in_ok-shown.ensures ∙ token_is c.args.token.now c.told-token c.fits-token)
     (ap sha256 (sym c.in_ok-shown.ensures)) refl

@@ -1,11 +1,16 @@
-use Rattle.std.proofs.Common.{◌<◌, ◌&&◌, length, refl, arith}
-use Rattle.lobby_players.proofs.Same.{pairs_more}
+use Rattle.std.proofs.Common.{◌≡◌, ◌==◌, ◌&&◌, Bool, length, sym, ap, ◌∙◌, rules, tests}
+use Rattle.std.specs.List.{list_all, zip}
+use Rattle.std.proofs.lemmas.Bool.Decides.{Decides-eqb}
+use Rattle.std.proofs.lemmas.Iterator.{YieldsList-from_slice, YieldsList-from_zip}
+use Rattle.std.proofs.lemmas.Iterator.Search.{all_from_yields_List}
+use Rattle.lobby_players.proofs.Same.{same_pair}
 use Rattle.lobby_players.proofs.relinking.are_same_players.Goals as goal
 
-pub loop-i-preserved : goal.loop-i-preserved
-loop-i-preserved c =
-    let below : c.loop-i.i < length c.args.some.now = omega (arith, c.loop-i-test.true) in
-    let inside : c.loop-i.i < length c.args.others.now = omega (arith, c.loop-i-test.true, c.if-some-others.false) in
-    pairs_more c.args.some.now c.args.others.now c.loop-i.i c.index-some-i.result c.index-others-i.result c.loop-i.same
-    (c.loop-i.same && c.is_same_player-same.result) c.is_same_player-same.result below inside c.index-some-i.is c.index-others-i.is
-    c.loop-i.invariant c.is_same_player-same.ensures refl
+pub returns-then-some-others : goal.returns-then-some-others
+returns-then-some-others c =
+    let some = c.args.some.now in
+    let others = c.args.others.now in
+    let long : length c.args.some.now ≡ length c.args.others.now = search rules in
+    all_from_yields_List same_pair c.all.new.self _ c.all.result c.all.ensures.ran
+    (YieldsList-from_zip (YieldsList-from_slice some cc) (YieldsList-from_slice others cc)) (λ x b q k. search (rules, tests))
+    ∙ ap (λ (b : Bool). b && list_all same_pair (zip some others)) (sym ((Decides-eqb (length some) (length others)).1 long))

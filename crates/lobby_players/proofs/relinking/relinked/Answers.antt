@@ -18,10 +18,10 @@ use Rattle.lobby_players.proofs.relinking.relinked.Goals as goal
 
 pub returns-then-not-are_same_players-clause-fault : goal.returns-then-not-are_same_players-clause-fault
 returns-then-not-are_same_players-clause-fault c =
-    let found = c.in-Ok-read_text.players.items in
+    let found = c.in_ok-found.found.items in
     record {
       entries = entries_of found;
-      file = subst (λ (t : List ℕ). IsFileOf t (entries_of found)) c.in-Ok.ensures.text c.in-Ok-read_text.ensures.players;
+      file = subst (λ (t : List ℕ). IsFileOf t (entries_of found)) c.in_ok-text.ensures.text c.in_ok-found.ensures.players;
       others = other_entries found c.args.known.now
           (ap (λ (ps : List Player). are_same_players ps c.args.known.now) (sym c.as_slice.ensures.value) ∙ sym c.if-not-are_same_players.ensures);
     }
@@ -32,9 +32,9 @@ returns-in_default-clause-fault c =
     record {
       entries = entries_of known;
       before = subst (λ (es : List Entry). IsFileOf c.args.text.now es)
-          (same_entries c.in-Ok-read_text.players.items c.args.known.now
+          (same_entries c.in_ok-found.found.items c.args.known.now
           (ap (λ (ps : List Player). are_same_players ps c.args.known.now) (sym c.as_slice.ensures.value) ∙ sym c.if-not-are_same_players.ensures))
-          (subst (λ (t : List ℕ). IsFileOf t (entries_of c.in-Ok-read_text.players.items)) c.in-Ok.ensures.text c.in-Ok-read_text.ensures.players);
+          (subst (λ (t : List ℕ). IsFileOf t (entries_of c.in_ok-found.found.items)) c.in_ok-text.ensures.text c.in_ok-found.ensures.players);
       none = nobody c.args.name.now known
           (ap (λ (n : List ℕ). find (named n) known) (sym c.as_str.ensures.text) ∙ (sym c.player_by_name.ensures ∙ ap option_copied c.in_default.is));
     }
@@ -46,9 +46,9 @@ returns-then-has_sum-clause-fault c =
     record {
       entries = entries_of known;
       before = subst (λ (es : List Entry). IsFileOf c.args.text.now es)
-          (same_entries c.in-Ok-read_text.players.items c.args.known.now
+          (same_entries c.in_ok-found.found.items c.args.known.now
           (ap (λ (ps : List Player). are_same_players ps c.args.known.now) (sym c.as_slice.ensures.value) ∙ sym c.if-not-are_same_players.ensures))
-          (subst (λ (t : List ℕ). IsFileOf t (entries_of c.in-Ok-read_text.players.items)) c.in-Ok.ensures.text c.in-Ok-read_text.ensures.players);
+          (subst (λ (t : List ℕ). IsFileOf t (entries_of c.in_ok-found.found.items)) c.in_ok-text.ensures.text c.in_ok-found.ensures.players);
       held = subst (λ (s : List ℕ). list_any (has_sum s) (entries_of known) ≡ true) summed
           (any_of (has_sum c.digest-sum.result) c.has_sum.result true known known c.has_sum.ensures refl c.if-has_sum.true);
     }
@@ -61,14 +61,14 @@ returns-clause-file c =
     let p = c.in-Some.player.now in
     file_relinked name sum c.args.text.now (string_bytes c.in_ok-new.new) p known c.in_ok-players.players.items
     (subst (λ (es : List Entry). IsFileOf c.args.text.now es)
-    (same_entries c.in-Ok-read_text.players.items c.args.known.now
+    (same_entries c.in_ok-found.found.items c.args.known.now
     (ap (λ (ps : List Player). are_same_players ps c.args.known.now) (sym c.as_slice.ensures.value) ∙ sym c.if-not-are_same_players.ensures))
-    (subst (λ (t : List ℕ). IsFileOf t (entries_of c.in-Ok-read_text.players.items)) c.in-Ok.ensures.text c.in-Ok-read_text.ensures.players))
+    (subst (λ (t : List ℕ). IsFileOf t (entries_of c.in_ok-found.found.items)) c.in_ok-text.ensures.text c.in_ok-found.ensures.players))
     (ap (λ (n : List ℕ). find (named n) known) (sym c.as_str.ensures.text) ∙ (sym c.player_by_name.ensures ∙ ap option_copied c.in-Some.is))
     (any_of (has_sum sum) c.has_sum.result false known known c.has_sum.ensures refl c.if-has_sum.false)
     c.in_ok-new.ensures.digits
     c.in_ok-players.ensures
-    (c.in_ok-new.ensures.written ∙ ap (λ (t : List ℕ). added_text t (entry_linked name sum p)) c.in-Ok.ensures.text)
+    (c.in_ok-new.ensures.written ∙ ap (λ (t : List ℕ). added_text t (entry_linked name sum p)) c.in_ok-text.ensures.text)
 
 pub returns-clause-players : goal.returns-clause-players
 returns-clause-players c =

@@ -1,29 +1,18 @@
 -- One more waits; where too many do, it is to be closed.
-use Rattle.std.proofs.Common.{◌||◌, ◌<◌, ◌≤◌, Bool, length, refl, ap, sym, arith, lt-ltb, le-ltb}
+use Rattle.std.proofs.Common.{ℕ, ◌≡◌, ◌||◌, ◌∙◌, Bool, true, false, length, refl, ap, arith}
+use Rattle.std.specs.Prelude.{nat_lt}
 use Rattle.lobby_guests.proofs.guest.Guest.put_behind.Goals as goal
 
-pub returns-then-len-gt-WAITING_MOST : goal.returns-then-len-gt-WAITING_MOST
-returns-then-len-gt-WAITING_MOST g c =
-    let old = c.args.self.now in
-    let most : 1024 < length c.push.new.self.items = omega (arith, c.if-len-gt-WAITING_MOST.true, c.len.ensures) in
-    record {
-      number = refl;
-      stream = refl;
-      browser = refl;
-      visit = record { key = refl; origin = refl; since = refl; heard = refl };
-      paid = refl;
-      logins = refl;
-      more = refl;
-      lost = sym (ap (λ (b : Bool). b || old.is_lost) (lt-ltb 1024 (length c.push.new.self.items) most));
-      one = c.in_ok-one.one;
-      copy = c.in_ok-one.ensures;
-      waits = c.in_ok-push.ensures.items;
-    }
+or_swap : (a b : Bool) → (a || b) ≡ (b || a)
+or_swap true true = refl
+or_swap true false = refl
+or_swap false true = refl
+or_swap false false = refl
 
-pub returns-else-len-gt-WAITING_MOST : goal.returns-else-len-gt-WAITING_MOST
-returns-else-len-gt-WAITING_MOST g c =
+pub returns : goal.returns
+returns g c =
     let old = c.args.self.now in
-    let few : length c.push.new.self.items ≤ 1024 = omega (arith, c.if-len-gt-WAITING_MOST.false, c.len.ensures) in
+    let many : c.len.result ≡ length c.push.new.self.items = omega (arith, c.len.ensures) in
     record {
       number = refl;
       stream = refl;
@@ -32,7 +21,8 @@ returns-else-len-gt-WAITING_MOST g c =
       paid = refl;
       logins = refl;
       more = refl;
-      lost = sym (ap (λ (b : Bool). b || old.is_lost) (le-ltb 1024 (length c.push.new.self.items) few));
+      lost = or_swap old.is_lost (nat_lt 1024 c.len.result)
+          ∙ ap (λ (n : ℕ). nat_lt 1024 n || old.is_lost) many;
       one = c.in_ok-one.one;
       copy = c.in_ok-one.ensures;
       waits = c.in_ok-push.ensures.items;

@@ -10,6 +10,6 @@ pub returns-clause-new : goal.returns-clause-new
 returns-clause-new c =
     let keys = c.args.self.now.names.keys in
     let small = c.in_ok-small.small in
-    c.in_ok-is_new.ensures.added
+    c.in_ok-insert.ensures.added
     ∙ ap not (any_mapped string_bytes (bytes_eq (string_bytes small)) keys
     ∙ ap (λ (l : List ℕ). list_any (bytes_eq l) (texts_of keys)) (c.in_ok-small.ensures.ok ∙ ap str_to_ascii_lowercase c.as_str.ensures.text))
