@@ -4,7 +4,7 @@
 
 import { dateWords, findKept, readKept, toldOf } from './kept.js';
 import { language, t } from './language.js';
-import { readPgn, readRefusal, readShow, readTimes, sideOf, timesOfOpen } from './lines.js';
+import { pairedLine, readPgn, readRefusal, readShow, readTimes, sideOf, timesOfOpen } from './lines.js';
 import { arrange, byId, copy, focused, make, read, setText, write } from './make.js';
 import {
   AGREED, NO_GAME, SIDES, arbiterWords, clockText, colourWord, resultWords, timesWords, withReason,
@@ -293,9 +293,28 @@ export class Adjournments {
   }
 
   /** The game of a note goes on as another one, which was opened by this line. */
-  goesOn(key, number, line) {
+  async goesOn(key, number, line) {
     const note = readNote(key);
-    if (note) this.keep({ ...note, later: number, taken: timesOfOpen(line) });
+    if (!note) return;
+    this.keep({ ...note, later: number, taken: timesOfOpen(line) });
+    await this.take(readNote(key));
+  }
+
+  /** Whether the later game is still to be noted for a round's board, of which the first one is known. */
+  isUntaken({ game, later, isTaken }) {
+    return Boolean(later && !isTaken && this.app.round.placeOf(game));
+  }
+
+  /** Has it noted there. */
+  async take(note) {
+    const { game, later, white, black } = note, place = this.app.round.placeOf(game);
+    if (!place) return;
+    const [answer] = await this.app.wire.say(pairedLine(place.round, place.board, later, [white, black, '', '']));
+    const refusal = readRefusal(answer);
+    if (answer.startsWith('ok ')) this.keep({ ...readNote(note.key) || note, isTaken: true });
+    this.say(note, answer.startsWith('ok ') ? '' : refusal ? arbiterWords(refusal)
+      : t`The connection broke before the answer came. Do it again.`);
+    this.render();
   }
 
   forget(note) {
@@ -326,8 +345,8 @@ export class Adjournments {
 
   /** The same element as long as it shows the same. */
   itemOf(note) {
-    const shows = JSON.stringify([note, this.said.get(note.key), this.busy, this.app.reachable(), this.nameOf(note, 'w'),
-      this.nameOf(note, 'b')]);
+    const shows = JSON.stringify([note, this.isUntaken(note), this.said.get(note.key), this.busy, this.app.reachable(),
+      this.nameOf(note, 'w'), this.nameOf(note, 'b')]);
     const before = this.items.get(note.key);
     if (before && before.shows === shows) return before;
     const item = this.item(note);
@@ -346,6 +365,9 @@ export class Adjournments {
     } else if (!note.later) {
       acts.push(button('on', t`Go on with it`, () => this.goOn(note), { class: 'strong' }));
     }
+    if (this.isUntaken(note)) {
+      acts.push(button('take', t`Note it for the board`, () => this.take(note), { class: 'strong' }));
+    }
     acts.push(button('copy', t`Copy the note`, () => this.copyNote(note, copied)),
       button('forget', t`Forget it`, () => this.forget(note)));
     return make('li', { class: 'adjourned' },
@@ -362,8 +384,8 @@ export class Adjournments {
       : t`Game ${note.game} has left the table before it was seen how it ended: its PGN tells. It stood so
         ${momentOf(note)}.`;
     if (!note.later) return t`${record} The game that goes on with it is the board’s.`;
-    return t`${record} It goes on as game ${note.later}, which is the board’s: in a league’s round give
-      --take BOARD=${note.later} to chess-club start.`;
+    const goesOn = t`${record} It goes on as game ${note.later}, which is the board’s.`;
+    return this.isUntaken(note) ? `${goesOn} ${said}`.trim() : goesOn;
   }
 }
 

@@ -102,6 +102,8 @@ export function announcedIn(lines) {
 
 /** By which what was decided before counts no more. */
 export const AS_PLAYED = 'as-played';
+/** By which a board is paired: its game stands in the place of the article, and its row in that of the reason. */
+export const PAIRED = 'paired';
 /** Decisions that a game is not rated, since not both sides made a move, and what the round's file has of them. */
 const UNRATED = { 'W/L': '1-0', 'L/W': '0-1', 'D/D': '1/2-1/2' };
 
@@ -119,6 +121,11 @@ export function readDecided(line) {
   const [, round, board, verdict, article, ...words] = line.split(' '), reason = words.join(' ');
   const result = resultBy(verdict), score = result.replaceAll('1/2', '½').replace(/^([+-])\//, '$1 ').replaceAll('-', '–');
   return { round, board, verdict, result, score, why: article === '-' ? reason : `${article}, ${reason}` };
+}
+
+/** What is said to the lobby to have a board of a round paired: its row without the board, and its game, 0 without one. */
+export function pairedLine(round, board, game, row) {
+  return `decide ${round} ${board} ${PAIRED} ${game || '-'} ${row.join()}`;
 }
 
 function behind(lines, front) {

@@ -1,9 +1,10 @@
-// A round at the desk: pairings are read from CSV, as chess-club start reads them, and their games opened by the
-// arbiter's word. The table is looked at first, so that no board gets a second game.
+// A round at the desk: pairings are read from CSV, as chess-club start reads them, put to the round's file, and their
+// games opened and noted there, all by the arbiter's word. The table is looked at first, so that no board gets a second
+// game.
 
 import { t } from './language.js';
-import { BYES, readPgn, readRefusal, readRows, readTimes, timesOfOpen } from './lines.js';
-import { byId, copy, make, save, setText } from './make.js';
+import { BYES, pairedLine, readPgn, readRefusal, readRows, readTimes, timesOfOpen } from './lines.js';
+import { byId, make, setText } from './make.js';
 import { isOf } from './pairing.js';
 import { folded } from './plain.js';
 import { resultText } from './round.js';
@@ -35,12 +36,11 @@ export class Openings {
       if (file.files[0]) this.take(form.elements.csv.value = decoded(await file.files[0].arrayBuffer()));
       file.value = '';
     });
-    byId('boards-open').addEventListener('click', () => this.ask());
-    byId('boards-copy').addEventListener('click', async () => {
-      const done = await copy(this.command());
-      this.note(done ? t`The command is copied.` : this.command(), 'news');
+    this.form = byId('boards-begin');
+    this.form.addEventListener('submit', (event) => {
+      event.preventDefault();
+      this.ask(this.form.elements.round.value);
     });
-    byId('boards-save').addEventListener('click', () => save(this.file(), 'text/csv', this.csv()));
   }
 
   // ---- reading
@@ -49,47 +49,79 @@ export class Openings {
   take(text) {
     const { boards, wrong } = readPairings(text, this.app.players);
     this.boards = wrong ? [] : boards;
+    this.form.elements.round.value = this.round();
     this.note(wrong);
     const csv = this.csv().trim();
     if (!wrong && csv !== text.replaceAll('\r', '').trim()) {
       byId('boards-form').elements.csv.value = csv;
-      this.note(t`The pairings stand above now as chess-club start takes them.`, 'news');
+      this.note(t`The pairings stand above now as the round’s file has them.`, 'news');
     }
     this.render();
   }
 
-  /** The pairings as chess-club start takes them. */
+  /** The pairings as the round's file has them. */
   csv() {
     return [HEADER, ...this.boards.map(rowOf), ''].join('\n');
   }
 
   // ---- opening
 
-  /** The boards that have no game yet, shall have one, and whose start has come. */
+  /** The boards that have no game yet, or one that was not noted, shall have one, and whose start has come. */
   due() {
-    return this.boards.filter(({ game, start, black, isElsewhere }) => black && !game && !isElsewhere
+    return this.boards.filter(({ isNoted, start, black, isElsewhere }) => black && !isNoted && !isElsewhere
       && start <= Date.now());
   }
 
-  ask() {
-    this.question.ask({ title: t`Open the games of this round: ${this.due().length}?`, yes: t`Open these games`,
-      words: t`Each is opened for White and joined for Black. From then on the clocks run.` }, () => this.open());
+  /** Whether a row is to be put down, or a game to be opened or noted. */
+  isLeft() {
+    return this.boards.some(({ isPut }) => !isPut) || this.due().length > 0;
   }
 
-  async open() {
+  ask(number) {
+    const count = this.due().filter(({ game }) => !game).length;
+    this.question.ask({ title: t`Begin round ${number}, and open its games: ${count}?`, yes: t`Open these games`,
+      words: t`Each is opened for White and joined for Black. From then on the clocks run.` }, () => this.open(number));
+  }
+
+  /** Puts the rows of a round down, all of them first, and opens its games. */
+  async open(number) {
     this.isBusy = true;
     this.note('');
     this.render();
     try {
-      for (const board of this.due()) if (!await this.openOne(board)) break;
+      await this.app.round.look();
+      for (const board of this.boards) if (!board.isPut && !await this.put(board, number, 0)) return;
+      for (const board of this.due()) if (!await this.openOne(board, number)) return;
     } finally {
       this.isBusy = false;
       this.render();
     }
   }
 
+  /** Puts the row of a board to a round, with its game, or 0 without one; whether that was done. */
+  async put(board, number, game) {
+    const [place, ...row] = rowOf(board).split(','), [answer] = await this.app.wire.say(pairedLine(number, place, game, row));
+    const refusal = readRefusal(answer), isDone = answer.startsWith('ok ');
+    if (isDone) Object.assign(board, { isPut: true, isNoted: game > 0 });
+    else if (refusal) board.said = arbiterWords(refusal);
+    else return this.isLost(answer);
+    this.render();
+    return isDone;
+  }
+
   /** Whether the next board may be opened: not behind an answer that was lost. */
-  async openOne(board) {
+  async openOne(board, number) {
+    const told = this.app.round.boardAt(Number(number), Number(board.board));
+    if (told && told.game) {
+      Object.assign(board, { game: told.game, isNoted: true });
+      return true;
+    }
+    if (!board.game && !await this.begin(board)) return false;
+    return !board.game || this.put(board, number, board.game);
+  }
+
+  /** Opens the game of a board; whether no answer was lost. */
+  async begin(board) {
     const rows = await this.table(), { white, black, line } = board;
     if (!rows) return this.isLost('');
     const known = await this.found(rows, board, black), waits = known ? 0 : await this.found(rows, board, '');
@@ -108,11 +140,12 @@ export class Openings {
     return true;
   }
 
-  /** The game of White's with the board's times against Black, also one that is over; or, against nobody, that waits
-   * for a second player, as a pairing that was cut off leaves it. 0 where there is none, UNTOLD where an answer was lost:
-   * a board that was opened is not opened again. */
+  /** The game of White's with the board's times against Black, also one that is over, but none that was noted for another
+   * board; or, against nobody, that waits for a second player, as a pairing that was cut off leaves it. 0 where there is
+   * none, UNTOLD where an answer was lost: a board that was opened is not opened again. */
   async found(rows, { white, line }, black) {
-    const isFit = (one) => one.white === white && (one.black || '') === black && (black || one.result === '*');
+    const isFit = (one) => one.white === white && (one.black || '') === black && (black || one.result === '*')
+      && !this.app.round.placeOf(one.number);
     for (const row of rows.filter(isFit)) {
       const pgn = await this.app.wire.say(`pgn ${row.number}`);
       if (!pgn[0].startsWith('ok ') && !readRefusal(pgn[0])) return UNTOLD;
@@ -150,25 +183,13 @@ export class Openings {
     return found ? found.board : '';
   }
 
-  /** The round of these pairings: one that was told with them, else the next. */
+  /** The round of these pairings: the newest, where each of its boards that was told is one of these, else the next. */
   round() {
     const { round } = this.app, newest = round.newest();
-    const isOf = (number) => this.boards.length > 0 && this.boards.every(({ board, white, black }) => {
-      const told = round.boardAt(number, Number(board));
-      return told && told.white === white && told.black === black;
-    });
-    return isOf(newest) ? newest : newest + 1;
-  }
-
-  file() {
-    return `round${this.round()}.csv`;
-  }
-
-  /** What notes on the club's machine which games are which board's. */
-  command() {
-    const taken = this.boards.filter(({ game }) => game).map(({ board, game }) => ` --take ${board}=${game}`).join('');
-    return taken && `./chess-club start --pairings FOLDER/${this.file()} --round-file FOLDER/round${this.round()}.games`
-      + ` --lobby 127.0.0.1:${location.port || '8080'} --token-file FOLDER/arbiter.link${taken}`;
+    const told = newest ? round.told.rounds[newest - 1].map(({ board }) => round.boardAt(newest, board)) : [null];
+    const isOne = (seat) => seat && this.boards.some(({ board, white, black }) => Number(board) === seat.board
+      && white === seat.white && black === seat.black);
+    return told.every(isOne) ? newest : newest + 1;
   }
 
   /** Who of the players has no board in these pairings, in words; '' where nobody has none. */
@@ -186,22 +207,19 @@ export class Openings {
   }
 
   render() {
-    const count = this.due().length, missing = this.missingWords();
+    const missing = this.missingWords();
     byId('boards-list').replaceChildren(...this.boards.map((board) => this.item(board)));
-    byId('boards-open').hidden = !count;
+    this.form.hidden = !this.isLeft();
     byId('boards-open').disabled = this.isBusy || !this.app.reachable();
-    byId('boards-copy').hidden = !this.command();
-    byId('boards-save').hidden = !this.boards.length;
     setText(byId('boards-missing'), missing);
-    setText(byId('boards-file'), this.boards.length ? t`For the standings: save the pairings as ${this.file()} in the
-      evening’s folder on the club’s machine. Once their games are open run the command there, with that folder for
-      FOLDER.` : '');
   }
 
   item(one) {
-    const { board, white, black, line, start, game, said, bye } = one, [first, second] = [white, black].map((name) =>
-      this.app.nameWords(name)), times = timesWords(readTimes(timesOfOpen(`open white ${line}`)));
-    return make('li', { class: game ? 'done' : said ? 'open' : 'still' }, t`Board ${board}`, ': ',
+    const { board, white, black, line, start, game, said, bye, isPut, isNoted } = one;
+    const [first, second] = [white, black].map((name) => this.app.nameWords(name));
+    const times = timesWords(readTimes(timesOfOpen(`open white ${line}`)));
+    const isDone = black && !one.isElsewhere ? isNoted : isPut;
+    return make('li', { class: isDone ? 'done' : said ? 'open' : 'still' }, t`Board ${board}`, ': ',
       black ? `${first} – ${second}${times && `, ${times}`}` : t`${first} has no opponent: a bye worth ${resultText(BYES[bye || 'U'])}`,
       start > Date.now() && `, ${t`from ${momentWords(start)} on`}`, said && `. ${said}`,
       game > 0 && ' ', game > 0 && make('a', { href: `#/game/${game}` }, t`Look at game ${game}`),
@@ -210,7 +228,7 @@ export class Openings {
 
   /** Whether a board is played on another board, as one of wood: no game is opened for it, nor can be without times. */
   elsewhere(board) {
-    const box = make('input', { type: 'checkbox', checked: board.isElsewhere, disabled: this.isBusy || !board.row[3] });
+    const box = make('input', { type: 'checkbox', checked: board.isElsewhere, disabled: this.isBusy || board.isPut || !board.row[3] });
     box.addEventListener('change', () => {
       board.isElsewhere = box.checked;
       this.render();
@@ -249,10 +267,10 @@ function readCsv(text) {
   return rows.filter((row) => row.some(Boolean));
 }
 
-/** The boards of a round: {board, white, black, line, start, isElsewhere, row}, `line` having the times as `open` has
- * them, `black` being empty where White has no opponent, `bye` the sign of that, `start` in milliseconds, `isElsewhere`
- * true where there are no times, since it is not played on the server, `row` with the short names; or what is wrong with
- * the first row that is. */
+/** The boards of a round: {board, white, black, line, start, isElsewhere, isPut, isNoted, row}, `line` having the times as
+ * `open` has them, `black` being empty where White has no opponent, `bye` the sign of that, `start` in milliseconds,
+ * `isElsewhere` true where there are no times, since it is not played on the server, `isPut` and `isNoted` whether the
+ * round's file has the row and the game, `row` with the short names; or what is wrong with the first row that is. */
 function readPairings(text, players) {
   const [head, ...rows] = readCsv(text.replace(/^\ufeff/, '')) || [], boards = [], seen = new Set();
   if (!head || head.join().toLowerCase() !== HEADER) return { boards, wrong: t`The first line has to be ${HEADER}` };
@@ -283,7 +301,7 @@ function boardOf(row, white, black = '') {
   const { initial, increment, moves, second } = readTimes(times || '') || { initial: NaN };
   const line = moves ? `${moves}/${initial}:${second} ${increment}` : `${initial} ${increment}`;
   return { board, white, black, line, start: begins ? Date.parse(begins) : 0, game: 0, said: '', bye, isElsewhere,
-    row: [board, white, black, times, begins] };
+    isPut: false, isNoted: false, row: [board, white, black, times, begins] };
 }
 
 /** A board's row in the round's file: it has no times where it is not played on the server. */

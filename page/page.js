@@ -9,7 +9,7 @@ import { FinishedView } from './finished.js';
 import { GameView } from './game.js';
 import { HallView, wholeScreen } from './hall.js';
 import { t } from './language.js';
-import { isNoGame, readAct, readDecided, readPlayers, readRefusal, readRows, readStanding } from './lines.js';
+import { PAIRED, isNoGame, readAct, readDecided, readPlayers, readRefusal, readRows, readStanding } from './lines.js';
 import { byId, make, say, setText } from './make.js';
 import { Offers } from './offers.js';
 import { RoundView } from './round.js';
@@ -517,6 +517,7 @@ class Page {
   /** An arbiter has decided a board. */
   async decided(line) {
     const told = readDecided(line), { round } = this;
+    if (told.verdict === PAIRED) return;
     const seats = () => round.boardAt(Number(told.round), Number(told.board));
     round.decides(told);
     if (!seats()) await round.look();

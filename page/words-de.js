@@ -41,10 +41,9 @@ export const WORDS = {
   'Game {0} has left the table before it was seen how it ended: its PGN tells. It stood so {1}.':
     'Partie {0} war nicht mehr am Tisch, bevor zu sehen war, wie sie endete: ihre PGN sagt es. So stand sie am {1}.',
   '{0} The game that goes on with it is the board’s.': '{0} Für das Brett zählt die Partie, die sie fortsetzt.',
-  ['{0} It goes on as game {1}, which is the board’s: in a league’s round give --take BOARD={2} to chess-club '
-    + 'start.']:
-    '{0} Sie geht als Partie {1} weiter, die für das Brett zählt: in der Runde einer Liga gib chess-club start '
-    + '--take BRETT={2} mit.',
+  '{0} It goes on as game {1}, which is the board’s.':
+    '{0} Sie geht als Partie {1} weiter, die für das Brett zählt.',
+  'Note it for the board': 'Für das Brett vermerken',
   'stands in the record as a draw': 'in der Aufzeichnung als Remis steht',
   'is on the table no more': 'nicht mehr am Tisch ist',
   '{0} had {1}': '{0} hatte {1}',
@@ -802,7 +801,7 @@ export const WORDS = {
   'Game {0} has not ended as a draw by agreement.': 'Partie {0} hat nicht mit einem vereinbarten Remis geendet.',
   'Looked up {0}. Game {1} stands in the record as a draw.':
     'Nachgesehen am {0}. Partie {1} steht in der Aufzeichnung als Remis.',
-  'Open the games of this round: {0}?': 'Die Partien dieser Runde eröffnen: {0}?',
+  'Begin round {0}, and open its games: {1}?': 'Runde {0} beginnen und ihre Partien eröffnen: {1}?',
   'Open these games': 'Diese Partien eröffnen',
   'Each is opened for White and joined for Black. From then on the clocks run.':
     'Jede wird für Weiß eröffnet, und Schwarz tritt bei. Von da an laufen die Uhren.',
@@ -1018,17 +1017,12 @@ export const WORDS = {
   'These signs cannot be sent: {0}. Write it without them.':
     'Diese Zeichen lassen sich nicht senden: {0}. Schreibe es ohne sie.',
   'It is told so: {0}': 'So wird es gesagt: {0}',
-  'The pairings stand above now as chess-club start takes them.':
-    'Die Ansetzungen stehen jetzt oben so, wie chess-club start sie nimmt.',
+  'The pairings stand above now as the round’s file has them.':
+    'Die Ansetzungen stehen jetzt oben so, wie die Datei der Runde sie hat.',
   'In no row, and so without a point in this round: {0}': 'In keiner Zeile, und darum ohne Punkt in dieser Runde: {0}',
-  ['For the standings: save the pairings as {0} in the evening’s folder on the club’s machine. Once their games '
-    + 'are open run the command there, with that folder for FOLDER.']:
-    'Für die Tabelle: speichere die Ansetzungen als {0} im Ordner des Abends auf dem Rechner des Vereins. Sind '
-    + 'ihre Partien eröffnet, führe dort den Befehl aus, mit diesem Ordner für FOLDER.',
   '{0} has no opponent: a bye worth {1}': '{0} hat keinen Gegner: spielfrei, {1}',
   'Open no game: it is played elsewhere': 'Keine Partie eröffnen: sie wird anderswo gespielt',
   'the sign of a bye is none of U, F, H and Z': 'das Zeichen für spielfrei ist keines von U, F, H und Z',
-  'Save the pairings': 'Ansetzungen speichern',
   'played elsewhere': 'anderswo gespielt',
   'Boards without a game, as those that are played elsewhere:':
     'Bretter ohne Partie, wie die, an denen anderswo gespielt wird:',

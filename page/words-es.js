@@ -39,10 +39,9 @@ export const WORDS = {
   'Game {0} has left the table before it was seen how it ended: its PGN tells. It stood so {1}.':
     'La partida {0} salió de la lista antes de que se viera cómo terminó: lo dice su PGN. Así estaba el {1}.',
   '{0} The game that goes on with it is the board’s.': '{0} Para el tablero cuenta la partida que la reanuda.',
-  ['{0} It goes on as game {1}, which is the board’s: in a league’s round give --take BOARD={2} to chess-club '
-    + 'start.']:
-    '{0} Sigue en la partida {1}, que cuenta para el tablero: en la ronda de una liga, añade --take TABLERO={2} a '
-    + 'chess-club start.',
+  '{0} It goes on as game {1}, which is the board’s.':
+    '{0} Sigue en la partida {1}, que cuenta para el tablero.',
+  'Note it for the board': 'Anotarla para el tablero',
   'stands in the record as a draw': 'consta como tablas',
   'is on the table no more': 'ya no está en la lista',
   '{0} had {1}': '{0} tenían {1}',
@@ -795,7 +794,7 @@ export const WORDS = {
   'Your own': 'Las tuyas',
   'Game {0} has not ended as a draw by agreement.': 'La partida {0} no terminó en tablas de común acuerdo.',
   'Looked up {0}. Game {1} stands in the record as a draw.': 'Consultada el {0}. La partida {1} consta como tablas.',
-  'Open the games of this round: {0}?': '¿Abrir las partidas de esta ronda: {0}?',
+  'Begin round {0}, and open its games: {1}?': '¿Empezar la ronda {0} y abrir sus partidas: {1}?',
   'Open these games': 'Abrir estas partidas',
   'Each is opened for White and joined for Black. From then on the clocks run.':
     'Cada una se abre con las blancas y entra el jugador de negras. Desde entonces corren los relojes.',
@@ -1009,17 +1008,12 @@ export const WORDS = {
   'These signs cannot be sent: {0}. Write it without them.':
     'Estos signos no se pueden enviar: {0}. Escríbelo sin ellos.',
   'It is told so: {0}': 'Se dice así: {0}',
-  'The pairings stand above now as chess-club start takes them.':
-    'Los emparejamientos están ahora arriba como los toma chess-club start.',
+  'The pairings stand above now as the round’s file has them.':
+    'Los emparejamientos están ahora arriba como los tiene el archivo de la ronda.',
   'In no row, and so without a point in this round: {0}': 'En ninguna fila, y por tanto sin punto en esta ronda: {0}',
-  ['For the standings: save the pairings as {0} in the evening’s folder on the club’s machine. Once their games '
-    + 'are open run the command there, with that folder for FOLDER.']:
-    'Para la clasificación: guarda los emparejamientos como {0} en la carpeta de la velada, en la máquina del '
-    + 'club. Cuando sus partidas estén abiertas, ejecuta allí la orden, con esa carpeta por FOLDER.',
   '{0} has no opponent: a bye worth {1}': '{0} no tiene rival: descanso que vale {1}',
   'Open no game: it is played elsewhere': 'No abrir partida: se juega en otro lugar',
   'the sign of a bye is none of U, F, H and Z': 'el signo del descanso no es ninguno de U, F, H y Z',
-  'Save the pairings': 'Guardar los emparejamientos',
   'played elsewhere': 'jugada en otro lugar',
   'Boards without a game, as those that are played elsewhere:':
     'Tableros sin partida, como los que se juegan en otro lugar:',

@@ -43,10 +43,9 @@ export const WORDS = {
     + 'là le {1}.',
   '{0} The game that goes on with it is the board’s.':
     '{0} C’est la partie qui la reprend qui compte pour l’échiquier.',
-  ['{0} It goes on as game {1}, which is the board’s: in a league’s round give --take BOARD={2} to chess-club '
-    + 'start.']:
-    '{0} Elle se poursuit par la partie {1}, qui compte pour l’échiquier : dans la ronde d’un championnat, donnez '
-    + '--take ÉCHIQUIER={2} à chess-club start.',
+  '{0} It goes on as game {1}, which is the board’s.':
+    '{0} Elle se poursuit par la partie {1}, qui compte pour l’échiquier.',
+  'Note it for the board': 'La noter pour l’échiquier',
   'stands in the record as a draw': 'est enregistrée comme nulle',
   'is on the table no more': 'n’est plus dans la liste',
   '{0} had {1}': '{0} : {1}',
@@ -808,7 +807,7 @@ export const WORDS = {
     'La partie {0} ne s’est pas terminée par une nulle d’un commun accord.',
   'Looked up {0}. Game {1} stands in the record as a draw.':
     'Consultée le {0}. La partie {1} est enregistrée comme nulle.',
-  'Open the games of this round: {0}?': 'Ouvrir les parties de cette ronde : {0} ?',
+  'Begin round {0}, and open its games: {1}?': 'Commencer la ronde {0} et ouvrir ses parties : {1} ?',
   'Open these games': 'Ouvrir ces parties',
   'Each is opened for White and joined for Black. From then on the clocks run.':
     'Chacune est ouverte pour les Blancs et rejointe pour les Noirs. Dès lors, les pendules tournent.',
@@ -1024,18 +1023,13 @@ export const WORDS = {
   'These signs cannot be sent: {0}. Write it without them.':
     'Ces signes ne peuvent pas être envoyés : {0}. Écrivez sans eux.',
   'It is told so: {0}': 'C’est annoncé ainsi : {0}',
-  'The pairings stand above now as chess-club start takes them.':
-    'Les appariements sont maintenant ci-dessus comme chess-club start les prend.',
+  'The pairings stand above now as the round’s file has them.':
+    'Les appariements sont maintenant ci-dessus comme le fichier de la ronde les a.',
   'In no row, and so without a point in this round: {0}':
     'Dans aucune ligne, et donc sans point dans cette ronde : {0}',
-  ['For the standings: save the pairings as {0} in the evening’s folder on the club’s machine. Once their games '
-    + 'are open run the command there, with that folder for FOLDER.']:
-    'Pour le classement : enregistrez les appariements sous {0} dans le dossier de la soirée, sur la machine du '
-    + 'club. Une fois leurs parties ouvertes, lancez-y la commande, avec ce dossier pour FOLDER.',
   '{0} has no opponent: a bye worth {1}': '{0} n’a pas d’adversaire : exempt, {1}',
   'Open no game: it is played elsewhere': 'N’ouvrir aucune partie : elle est jouée ailleurs',
   'the sign of a bye is none of U, F, H and Z': 'le signe de l’exemption n’est aucun de U, F, H et Z',
-  'Save the pairings': 'Enregistrer les appariements',
   'played elsewhere': 'jouée ailleurs',
   'Boards without a game, as those that are played elsewhere:':
     'Échiquiers sans partie, comme ceux qui sont joués ailleurs :',

@@ -40,10 +40,9 @@ export const WORDS = {
   'Game {0} has left the table before it was seen how it ended: its PGN tells. It stood so {1}.':
     'La partita {0} è uscita dall’elenco prima che si vedesse com’è finita: lo dice il suo PGN. Era così il {1}.',
   '{0} The game that goes on with it is the board’s.': '{0} Per la scacchiera vale la partita che la riprende.',
-  ['{0} It goes on as game {1}, which is the board’s: in a league’s round give --take BOARD={2} to chess-club '
-    + 'start.']:
-    '{0} Continua come partita {1}, che vale per la scacchiera: nel turno di un campionato aggiungi --take '
-    + 'SCACCHIERA={2} a chess-club start.',
+  '{0} It goes on as game {1}, which is the board’s.':
+    '{0} Continua come partita {1}, che vale per la scacchiera.',
+  'Note it for the board': 'Annotala per la scacchiera',
   'stands in the record as a draw': 'risulta patta nel registro',
   'is on the table no more': 'non è più in elenco',
   '{0} had {1}': '{0} aveva {1}',
@@ -800,7 +799,7 @@ export const WORDS = {
   'Game {0} has not ended as a draw by agreement.': 'La partita {0} non è finita patta per accordo.',
   'Looked up {0}. Game {1} stands in the record as a draw.':
     'Consultata il {0}. La partita {1} risulta patta nel registro.',
-  'Open the games of this round: {0}?': 'Aprire le partite di questo turno: {0}?',
+  'Begin round {0}, and open its games: {1}?': 'Iniziare il turno {0} e aprire le sue partite: {1}?',
   'Open these games': 'Apri queste partite',
   'Each is opened for White and joined for Black. From then on the clocks run.':
     'Ognuna si apre per il Bianco e il Nero vi si unisce. Da allora gli orologi camminano.',
@@ -1014,17 +1013,12 @@ export const WORDS = {
   'These signs cannot be sent: {0}. Write it without them.':
     'Questi segni non si possono inviare: {0}. Scrivi senza di essi.',
   'It is told so: {0}': 'Viene detto così: {0}',
-  'The pairings stand above now as chess-club start takes them.':
-    'Gli abbinamenti stanno ora sopra come li prende chess-club start.',
+  'The pairings stand above now as the round’s file has them.':
+    'Gli abbinamenti stanno ora sopra come li ha il file del turno.',
   'In no row, and so without a point in this round: {0}': 'In nessuna riga, e quindi senza punto in questo turno: {0}',
-  ['For the standings: save the pairings as {0} in the evening’s folder on the club’s machine. Once their games '
-    + 'are open run the command there, with that folder for FOLDER.']:
-    'Per la classifica: salva gli abbinamenti come {0} nella cartella della serata sulla macchina del circolo. '
-    + 'Quando le loro partite sono aperte esegui lì il comando, con quella cartella per FOLDER.',
   '{0} has no opponent: a bye worth {1}': '{0} non ha avversario: riposo che vale {1}',
   'Open no game: it is played elsewhere': 'Non aprire la partita: si gioca altrove',
   'the sign of a bye is none of U, F, H and Z': 'il segno del riposo non è nessuno fra U, F, H e Z',
-  'Save the pairings': 'Salva gli abbinamenti',
   'played elsewhere': 'giocata altrove',
   'Boards without a game, as those that are played elsewhere:':
     'Scacchiere senza partita, come quelle giocate altrove:',

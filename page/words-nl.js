@@ -40,10 +40,9 @@ export const WORDS = {
   'Game {0} has left the table before it was seen how it ended: its PGN tells. It stood so {1}.':
     'Partij {0} was van de lijst voordat te zien was hoe die afliep: de PGN vertelt het. Zo stond de partij op {1}.',
   '{0} The game that goes on with it is the board’s.': '{0} Voor het bord telt de vervolgpartij.',
-  ['{0} It goes on as game {1}, which is the board’s: in a league’s round give --take BOARD={2} to chess-club '
-    + 'start.']:
-    '{0} Het vervolg is partij {1}, die voor het bord telt: geef in een competitieronde --take BORD={2} mee aan '
-    + 'chess-club start.',
+  '{0} It goes on as game {1}, which is the board’s.':
+    '{0} Het vervolg is partij {1}, die voor het bord telt.',
+  'Note it for the board': 'Voor het bord noteren',
   'stands in the record as a draw': 'te boek staat als remise',
   'is on the table no more': 'niet meer op de lijst staat',
   '{0} had {1}': '{0} had {1}',
@@ -801,7 +800,7 @@ export const WORDS = {
   'Your own': 'Je eigen',
   'Game {0} has not ended as a draw by agreement.': 'Partij {0} is niet in onderling overleg remise geworden.',
   'Looked up {0}. Game {1} stands in the record as a draw.': 'Opgezocht op {0}. Partij {1} staat te boek als remise.',
-  'Open the games of this round: {0}?': 'De partijen van deze ronde openen: {0}?',
+  'Begin round {0}, and open its games: {1}?': 'Ronde {0} beginnen en de partijen ervan openen: {1}?',
   'Open these games': 'Deze partijen openen',
   'Each is opened for White and joined for Black. From then on the clocks run.':
     'Elke wordt voor Wit geopend en Zwart doet mee. Vanaf dan lopen de klokken.',
@@ -1015,17 +1014,12 @@ export const WORDS = {
   'These signs cannot be sent: {0}. Write it without them.':
     'Deze tekens kunnen niet worden verzonden: {0}. Schrijf het zonder.',
   'It is told so: {0}': 'Het wordt zo gezegd: {0}',
-  'The pairings stand above now as chess-club start takes them.':
-    'De indeling staat nu hierboven zoals chess-club start die neemt.',
+  'The pairings stand above now as the round’s file has them.':
+    'De indeling staat nu hierboven zoals het bestand van de ronde die heeft.',
   'In no row, and so without a point in this round: {0}': 'Op geen regel, en dus zonder punt in deze ronde: {0}',
-  ['For the standings: save the pairings as {0} in the evening’s folder on the club’s machine. Once their games '
-    + 'are open run the command there, with that folder for FOLDER.']:
-    'Voor de stand: bewaar de indeling als {0} in de map van de avond op de machine van de club. Zijn de partijen '
-    + 'geopend, voer daar dan de opdracht uit, met die map voor FOLDER.',
   '{0} has no opponent: a bye worth {1}': '{0} heeft geen tegenstander: vrij, {1}',
   'Open no game: it is played elsewhere': 'Geen partij openen: er wordt elders gespeeld',
   'the sign of a bye is none of U, F, H and Z': 'het teken voor vrij is geen van U, F, H en Z',
-  'Save the pairings': 'Indeling bewaren',
   'played elsewhere': 'elders gespeeld',
   'Boards without a game, as those that are played elsewhere:':
     'Borden zonder partij, zoals die elders gespeeld worden:',

@@ -40,10 +40,9 @@ export const WORDS = {
   'Game {0} has left the table before it was seen how it ended: its PGN tells. It stood so {1}.':
     'Partia {0} zniknęła z listy, zanim było widać jej wynik: podaje go jej PGN. Stan z {1}.',
   '{0} The game that goes on with it is the board’s.': '{0} Dla szachownicy liczy się partia, która ją wznawia.',
-  ['{0} It goes on as game {1}, which is the board’s: in a league’s round give --take BOARD={2} to chess-club '
-    + 'start.']:
-    '{0} Toczy się dalej jako partia {1}, która liczy się dla szachownicy: w rundzie ligi podaj --take '
-    + 'SZACHOWNICA={2} w chess-club start.',
+  '{0} It goes on as game {1}, which is the board’s.':
+    '{0} Toczy się dalej jako partia {1}, która liczy się dla szachownicy.',
+  'Note it for the board': 'Zapisz ją dla szachownicy',
   'stands in the record as a draw': 'figuruje w zapisie jako remis',
   'is on the table no more': 'nie jest już na liście',
   '{0} had {1}': '{0} miały {1}',
@@ -793,7 +792,7 @@ export const WORDS = {
   'Game {0} has not ended as a draw by agreement.': 'Partia {0} nie skończyła się remisem za zgodą stron.',
   'Looked up {0}. Game {1} stands in the record as a draw.':
     'Sprawdzona: {0}. W zapisie partia {1} figuruje jako remis.',
-  'Open the games of this round: {0}?': 'Otworzyć partie tej rundy: {0}?',
+  'Begin round {0}, and open its games: {1}?': 'Rozpocząć rundę {0} i otworzyć jej partie: {1}?',
   'Open these games': 'Otwórz te partie',
   'Each is opened for White and joined for Black. From then on the clocks run.':
     'Każdą otwierają białe, a czarne dołączają. Od tej chwili zegary idą.',
@@ -1003,17 +1002,12 @@ export const WORDS = {
     '{0} to pełne nazwisko graczy {1}: napisz, który z nich to jest',
   'These signs cannot be sent: {0}. Write it without them.': 'Tych znaków nie można wysłać: {0}. Napisz to bez nich.',
   'It is told so: {0}': 'Zostanie to podane tak: {0}',
-  'The pairings stand above now as chess-club start takes them.':
-    'Kojarzenia stoją teraz powyżej tak, jak bierze je chess-club start.',
+  'The pairings stand above now as the round’s file has them.':
+    'Kojarzenia stoją teraz powyżej tak, jak ma je plik rundy.',
   'In no row, and so without a point in this round: {0}': 'W żadnym wierszu, a więc bez punktu w tej rundzie: {0}',
-  ['For the standings: save the pairings as {0} in the evening’s folder on the club’s machine. Once their games '
-    + 'are open run the command there, with that folder for FOLDER.']:
-    'Do klasyfikacji: zapisz kojarzenia jako {0} w folderze wieczoru na komputerze klubu. Gdy ich partie są '
-    + 'otwarte, wykonaj tam polecenie, z tym folderem w miejscu FOLDER.',
   '{0} has no opponent: a bye worth {1}': '{0} nie ma przeciwnika: pauza warta {1}',
   'Open no game: it is played elsewhere': 'Nie otwieraj partii: gra się gdzie indziej',
   'the sign of a bye is none of U, F, H and Z': 'znak pauzy nie jest żadnym z U, F, H i Z',
-  'Save the pairings': 'Zapisz kojarzenia',
   'played elsewhere': 'rozegrana gdzie indziej',
   'Boards without a game, as those that are played elsewhere:':
     'Szachownice bez partii, jak te, na których gra się gdzie indziej:',

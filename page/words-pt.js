@@ -39,10 +39,9 @@ export const WORDS = {
   'Game {0} has left the table before it was seen how it ended: its PGN tells. It stood so {1}.':
     'A partida {0} saiu da lista antes que se visse como terminou: o PGN diz. Estava assim em {1}.',
   '{0} The game that goes on with it is the board’s.': '{0} Para o tabuleiro vale a partida que a retoma.',
-  ['{0} It goes on as game {1}, which is the board’s: in a league’s round give --take BOARD={2} to chess-club '
-    + 'start.']:
-    '{0} Continua na partida {1}, que vale para o tabuleiro: na rodada de uma liga, acrescente --take TABULEIRO={2} '
-    + 'a chess-club start.',
+  '{0} It goes on as game {1}, which is the board’s.':
+    '{0} Continua na partida {1}, que vale para o tabuleiro.',
+  'Note it for the board': 'Anotar para o tabuleiro',
   'stands in the record as a draw': 'consta como empate',
   'is on the table no more': 'já não está na lista',
   '{0} had {1}': '{0} tinham {1}',
@@ -790,7 +789,7 @@ export const WORDS = {
   'Your own': 'As suas',
   'Game {0} has not ended as a draw by agreement.': 'A partida {0} não terminou em empate por acordo.',
   'Looked up {0}. Game {1} stands in the record as a draw.': 'Consultada em {0}. A partida {1} consta como empate.',
-  'Open the games of this round: {0}?': 'Abrir as partidas desta rodada: {0}?',
+  'Begin round {0}, and open its games: {1}?': 'Começar a rodada {0} e abrir as suas partidas: {1}?',
   'Open these games': 'Abrir estas partidas',
   'Each is opened for White and joined for Black. From then on the clocks run.':
     'Cada uma é aberta para as brancas e as pretas entram. A partir daí os relógios correm.',
@@ -1000,17 +999,12 @@ export const WORDS = {
   'These signs cannot be sent: {0}. Write it without them.':
     'Estes sinais não podem ser enviados: {0}. Escreva sem eles.',
   'It is told so: {0}': 'Será dito assim: {0}',
-  'The pairings stand above now as chess-club start takes them.':
-    'Os emparceiramentos estão agora acima como chess-club start os toma.',
+  'The pairings stand above now as the round’s file has them.':
+    'Os emparceiramentos estão agora acima como o arquivo da rodada os tem.',
   'In no row, and so without a point in this round: {0}': 'Em nenhuma linha, e portanto sem ponto nesta rodada: {0}',
-  ['For the standings: save the pairings as {0} in the evening’s folder on the club’s machine. Once their games '
-    + 'are open run the command there, with that folder for FOLDER.']:
-    'Para a classificação: salve os emparceiramentos como {0} na pasta da noite, na máquina do clube. Quando as '
-    + 'partidas estiverem abertas, execute lá o comando, com essa pasta no lugar de FOLDER.',
   '{0} has no opponent: a bye worth {1}': '{0} não tem adversário: isento, {1}',
   'Open no game: it is played elsewhere': 'Não abrir partida: é jogada noutro lugar',
   'the sign of a bye is none of U, F, H and Z': 'o sinal da folga não é nenhum de U, F, H e Z',
-  'Save the pairings': 'Salvar os emparceiramentos',
   'played elsewhere': 'jogada noutro lugar',
   'Boards without a game, as those that are played elsewhere:':
     'Tabuleiros sem partida, como os que são jogados noutro lugar:',

@@ -16,11 +16,13 @@ use night_outcomes::{decide_in, decide_result, write_results};
 use night_standings::write_standings;
 use std::process::ExitCode;
 
-// The files of rounds in a folder, to whose decisions an arbiter's are put; without a name there is none.
+// The files of rounds in a folder, to which an arbiter's decisions are put, and the players' file; without a name there
+// is no folder.
 #[derive(Drop)]
 struct RoundFiles<'a> {
     rt: &'a HostRuntime,
     folder: &'a str,
+    players: &'a str,
 }
 
 impl KeepsDecisions for RoundFiles<'_> {
@@ -28,7 +30,7 @@ impl KeepsDecisions for RoundFiles<'_> {
         if self.folder.is_empty() {
             bail!("there is no --decisions");
         }
-        decide_in(self.rt, self.folder, arbiter, decision)
+        decide_in(self.rt, self.folder, self.players, arbiter, decision)
     }
 }
 
@@ -41,8 +43,12 @@ fn do_words(rt: &HostRuntime) -> std::result::Result<(), NotDone> {
     let words = words_given(rt, command(rt.alloc())?)?;
     match read_words(rt.alloc(), words.as_slice())? {
         Word::Lobby(serving) => {
-            let folder = serving.decisions.unwrap_or_default();
-            serve(rt, &serving, RoundFiles { rt, folder })
+            let files = RoundFiles {
+                rt,
+                folder: serving.decisions.unwrap_or_default(),
+                players: serving.players,
+            };
+            serve(rt, &serving, files)
         }
         Word::Player(adding) => add_player(rt, &adding),
         Word::Evidence(asked) => evidence(rt, &asked),

@@ -1,10 +1,11 @@
-//! An arbiter's decision about a board that is put to those of its round: by the word `decide`, and by the lobby's.
+//! An arbiter's decision about a board that is put to those of its round, or to its pairings: by the word `decide`, and
+//! by the lobby's.
 use crate::asked::Deciding;
 use crate::decisions::put_decision;
 use anyhow::{Context, Result, bail};
 use command_lines::unix_time;
 use lobby_words::{cut_word, number_named};
-use night_boards::{black_name, check_verdict, pairings_of};
+use night_boards::{Seating, black_name, check_verdict, pairings_of, seat};
 use night_rounds::{
     Decision, Ground, Pairing, Players, Verdict, decision_of, decision_text, verdict_of,
     verdict_text,
@@ -89,9 +90,17 @@ where
 }
 
 /// Puts a decision `ROUND BOARD RESULT ARTICLE REASON` of an arbiter to those of its round: by the pairings of
-/// `roundROUND.csv` in a folder into `roundROUND.decisions` there. An ARTICLE `-` is none. It fails where the text has
-/// no such form, and as `decide_result` does.
-pub fn decide_in<R>(rt: &R, folder: &str, arbiter: &str, text: &str) -> Result<()>
+/// `roundROUND.csv` in a folder into `roundROUND.decisions` there. An ARTICLE `-` is none. Where RESULT is `paired`, as
+/// in `ROUND BOARD paired GAME WHITE,BLACK,TIMES,START`, that row is put to these pairings, and GAME, of which `-` is
+/// none, noted in `roundROUND.games`, where who plays is in this players' file. It fails where the text has no such form,
+/// and as `decide_result` and `seat` do.
+pub fn decide_in<'a, R>(
+    rt: &R,
+    folder: &str,
+    players: &'a str,
+    arbiter: &'a str,
+    text: &'a str,
+) -> Result<()>
 where
     R: Files<File = File> + AllocGlobal + Clock + Eprint,
 {
@@ -100,13 +109,26 @@ where
     let (result, rest) = cut_word(rest);
     let (article, reason) = cut_word(rest);
     let round = number_named(round).context("no round is named")?;
+    let board = number_named(board).context("no board is named")?;
     let front = format!(in rt.alloc(); "{folder}/round{round}")?;
     let pairings = format!(in rt.alloc(); "{front}.csv")?;
+    if result == "paired" {
+        let games = format!(in rt.alloc(); "{front}.games")?;
+        let seating = Seating {
+            pairings: pairings.as_str(),
+            games: games.as_str(),
+            board,
+            row: reason,
+            game: article,
+            players,
+        };
+        return seat(rt, &seating);
+    }
     let file = format!(in rt.alloc(); "{front}.decisions")?;
     let deciding = Deciding {
         pairings: pairings.as_str(),
         file: file.as_str(),
-        board: number_named(board).context("no board is named")?,
+        board,
         verdict: verdict_of(result).context("there is no such result")?,
         article: if article == "-" { "" } else { article },
         arbiter,
