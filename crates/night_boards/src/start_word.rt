@@ -95,18 +95,15 @@ where
         Ok(())
     }
 
-    // Asks the arbiter about a board.
-    fn tell_question(&self, board: &Board) -> Result<()> {
-        let question = board.question(&self.file)?;
-        Ok(tell(self.rt, question.as_str())?)
-    }
-
     // Tells what became of a board.
     fn tell(&mut self, board: &Board, became: Became) -> Result<()> {
         self.is_unheard = true;
         match became {
             Became::Has(game) => self.tell_game(board, game)?,
-            Became::Asks => self.tell_question(board)?,
+            Became::Asks => {
+                let question = board.question(&self.file)?;
+                tell(self.rt, question.as_str())?;
+            }
         }
         self.settled.push(board.pairing.board)?;
         self.is_unheard = false;
