@@ -28,9 +28,10 @@ board alone, and ends with status 1. Look at the games then, and give it again w
 game that is the board's, or with --after where none up to a game is: it is opened then.
 
 A row of --pairings with White and no Black is a bye: nothing is opened for it, nor for one
-without times, which is not played on the server. By --players a name that is not in that file
-is refused before anything is opened. So is an initial time of less than 60 seconds, since 15+10
-is 15 seconds here, but with --short.
+without times, which is not played on the server. By --decisions none is opened for a board about
+which an arbiter has decided, also while it waits, unless one is noted for it. By --players a name
+that is not in that file is refused before anything is opened. So is an initial time of less than
+60 seconds, since 15+10 is 15 seconds here, but with --short.
 
 Exit status: 0; 1 with what is wrong on standard error; 2 for words that the program does
 not know.
@@ -91,8 +92,8 @@ are ranked as by standings. Asked for results are the archive, where --archive n
 then the server, where --server does; the last decision of an arbiter about a board counts in
 their place. Without --rounds it has the players alone, for a program that pairs round 1. Where a
 game is of others than its board's players it writes nothing, and ends with status 1; where a
-board has no result yet, a line of the archive is no game's or the server is away, that status is
-behind the report.
+board has no result yet, a game counts for two boards, a line of the archive is no game's or the
+server is away, that status is behind the report.
 
 Exit status: 0; 1 with what is wrong on standard error; 2 for words that the program does
 not know.
@@ -361,6 +362,7 @@ pub const START: WordText = WordText {
         LOBBY,
         TOKEN_FILE,
         PLAYERS_OPENED,
+        DECISIONS,
         TAKE,
         AFTER,
         SHORT,

@@ -1,10 +1,10 @@
 //! The game of one board: it is paired and noted.
+use crate::files::noted_game;
 use crate::round_file::RoundFile;
 use crate::table::{Table, has_times, look, show_game};
 use anyhow::Result;
 use night_rounds::{
-    Against, Game, Note, Pairing, Row, Seats, Stage, Step, Times, candidates, newest, step_of,
-    times_text,
+    Against, Game, Note, Pairing, Row, Stage, Step, Times, candidates, newest, step_of, times_text,
 };
 use std::alloc::{AllocError, Global};
 
@@ -74,15 +74,6 @@ fn with_times<T: Table>(
     Ok(with)
 }
 
-// What became of a board, where that is settled by what was to be done about it.
-fn became_by(step: Step) -> Option<Became> {
-    match step {
-        Step::Has(game) => Some(Became::Has(game)),
-        Step::Ask => Some(Became::Asks),
-        _ => None,
-    }
-}
-
 impl Board {
     /// A note of it.
     pub fn note(&self, stage: Stage) -> Note {
@@ -124,14 +115,6 @@ impl Board {
         with_times(self.alloc, lobby, found.as_slice(), times.as_str())
     }
 
-    // Who sits in its game; none where that is not on the table.
-    fn seats<T: Table>(&self, lobby: &mut T, game: u32) -> Result<Option<Seats>> {
-        match show_game(self.alloc, lobby, game)? {
-            Some(shown) => Ok(Some(shown.seats)),
-            None => Ok(None),
-        }
-    }
-
     // What is to be done about it where its game was not opened, by these games.
     fn step_by(&self, stage: Option<&Stage>, games: &[u32]) -> Step {
         let (white, black) = (&self.pairing.white, &self.game.black);
@@ -158,7 +141,10 @@ impl Board {
 
     // What is to be done about it where this game was noted, by who sits in it.
     fn step<T: Table>(&self, lobby: &mut T, stage: &Stage, game: u32) -> Result<Step> {
-        let seats = self.seats(lobby, game)?;
+        let seats = match show_game(self.alloc, lobby, game)? {
+            Some(shown) => Some(shown.seats),
+            None => None,
+        };
         // (of a game that has left the table the arbiter's word is all there is)
         if seats.is_none() && self.taken == Some(game) {
             return Ok(Step::Note(game));
@@ -205,7 +191,11 @@ impl Board {
     fn do_step<T: Table>(&self, lobby: &mut T, file: &mut RoundFile) -> Result<Option<Became>> {
         let seen = self.seen(lobby, file)?;
         self.act(lobby, file, &seen)?;
-        Ok(became_by(seen.step))
+        match seen.step {
+            Step::Has(game) => Ok(Some(Became::Has(game))),
+            Step::Ask => Ok(Some(Became::Asks)),
+            _ => Ok(None),
+        }
     }
 
     /// Goes on with its game until Black has joined it, or until it is the arbiter's to say which it is. Wherever
@@ -222,7 +212,7 @@ impl Board {
     /// What is to be asked of the arbiter about it.
     pub fn question(&self, file: &RoundFile) -> Result<String, AllocError> {
         let board = self.pairing.board;
-        match file.game_of(board) {
+        match noted_game(file.notes(), board) {
             Some(game) => format!(in self.alloc;
                 "board {board}: game {game} has other players, or left the table before Black was seen in it"
             ),

@@ -39,26 +39,21 @@ pub fn check_players(players: &[Player], pairings: &[Pairing]) -> Result<()> {
     Ok(())
 }
 
-// Whether a game has a minute at least. It fails where it has not: whoever writes 15 means minutes.
-fn check_time(row: usize, seconds: u32) -> Result<()> {
-    if seconds >= SHORT {
-        return Ok(());
-    }
-    anyhow::bail!(
-        "row {row}: the initial time is {seconds} seconds: 15 minutes are 900. Where seconds are meant, it is given \
-        again with --short"
-    )
-}
-
-/// Whether each game that has times has a minute at least. It fails at the first that has less.
+/// Whether each game that has times has a minute at least, since whoever writes 15 means minutes. It fails at the first
+/// that has less.
 pub fn check_times(pairings: &[Pairing]) -> Result<()> {
     let mut row: usize = 1;
     for pairing in pairings {
         row = row.saturating_add(1);
         if let Against::Game(game) = pairing.against
             && let Some(times) = game.times
+            && times.initial < SHORT
         {
-            check_time(row, times.initial)?;
+            let seconds = times.initial;
+            anyhow::bail!(
+                "row {row}: the initial time is {seconds} seconds: 15 minutes are 900. Where seconds are meant, it is \
+                given again with --short"
+            );
         }
     }
     Ok(())

@@ -1,8 +1,14 @@
 //! The files that are only read.
+ghost use Rattle.std.specs.Prelude.{◌≡◌, IfOk};
+ghost use Rattle.std.specs.String.{string_bytes};
+ghost use Rattle.night_rounds.specs.Notes as notes_spec;
+ghost use Rattle.night_boards.specs.Told as spec;
+ghost use Rattle.night_boards.specs.Waits as waits;
+
 use anyhow::{Context, Result, bail};
 use lobby_players::check_short;
 use night_files::{cut_lines, end_last_line, tell_left_out, torn_fault};
-use night_rounds::{Against, Note, Pairing, note_of, read};
+use night_rounds::{Against, Note, Pairing, game_in, last_of, note_of, read};
 use std::alloc::{AllocError, Global};
 use std::fs;
 use std::rt::Files;
@@ -21,12 +27,24 @@ const BEGINNING: &[u8] = b"{\"board\":";
 // More than the line of the longest note has.
 const MOST_BEHIND: usize = 8192;
 
-// Fails where what stands behind so many lines may not be cut off.
-fn check_behind(lines: usize, behind: &[u8]) -> Result<()> {
-    match torn_fault(BEGINNING, MOST_BEHIND, behind) {
-        Some(fault) => bail!("behind line {lines}: {fault}"),
-        None => Ok(()),
+/// The lines in a file's bytes. It fails where what stands behind them may not be cut off: where it is no torn line,
+/// which begins so and has so many bytes at most.
+pub fn lines_in<'a>(
+    alloc: Global,
+    bytes: &'a [u8],
+    beginning: &[u8],
+    most: usize,
+) -> Result<Vec<&'a str>> {
+    let (whole, behind) = cut_lines(bytes);
+    let text = str::from_utf8(whole).ok().context("it is not in UTF-8")?;
+    let lines = parts(alloc, text, '\n')?;
+    if !behind.is_empty()
+        && let Some(fault) = torn_fault(beginning, most, behind)
+    {
+        let count = lines.len();
+        bail!("behind line {count}: {fault}");
     }
+    Ok(lines)
 }
 
 // The note of the line of this number, from 1 on.
@@ -35,15 +53,6 @@ fn note_in(alloc: Global, number: usize, line: &str) -> Result<Note> {
         Some(note) => Ok(note),
         None => bail!("line {number} is no note: {line:?}"),
     }
-}
-
-fn notes_of_lines(alloc: Global, lines: &[&str]) -> Result<Vec<Note>> {
-    let mut notes = Vec::new(alloc);
-    for line in lines {
-        let number = notes.len().saturating_add(1);
-        notes.push(note_in(alloc, number, line)?)?;
-    }
-    Ok(notes)
 }
 
 /// Ends the last line of a round's bytes where it lacks only its line feed, and answers whether it did.
@@ -58,11 +67,13 @@ pub fn notes_in(alloc: Global, file: &str, bytes: &[u8]) -> Result<Vec<Note>> {
 }
 
 fn notes_of_bytes(alloc: Global, bytes: &[u8]) -> Result<Vec<Note>> {
-    let (whole, behind) = cut_lines(bytes);
-    let text = str::from_utf8(whole).ok().context("it is not in UTF-8")?;
-    let lines = parts(alloc, text, '\n')?;
-    check_behind(lines.len(), behind)?;
-    notes_of_lines(alloc, lines.as_slice())
+    let lines = lines_in(alloc, bytes, BEGINNING, MOST_BEHIND)?;
+    let mut notes = Vec::new(alloc);
+    for line in lines.as_slice() {
+        let number = notes.len().saturating_add(1);
+        notes.push(note_in(alloc, number, line)?)?;
+    }
+    Ok(notes)
 }
 
 // The notes of a round's file, whose last line may lack its line feed. What stands behind its lines is left out, and
@@ -73,6 +84,16 @@ fn notes_of<R: Files + AllocGlobal + Eprint>(rt: &R, file: &str) -> Result<Vec<N
     let notes = notes_in(rt.alloc(), file, bytes.as_slice())?;
     tell_left_out(rt, file, bytes.as_slice());
     Ok(notes)
+}
+
+/// The game of a board, where it was opened and noted.
+pub fn noted_game(notes: &[Note], board: u32) -> Option<u32>
+    ensures { result ≡ waits.noted_game (notes_spec.last_of board notes.now) }
+{
+    match last_of(notes, board) {
+        Some(note) => game_in(&note.stage),
+        None => None,
+    }
 }
 
 /// A round: who is paired, and what was noted.
@@ -92,36 +113,56 @@ pub fn paired_of<R: Files + AllocGlobal + Eprint>(
         pairings: pairings_of(rt, pairings)?,
         notes: notes_of(rt, games)?,
     };
-    check_notes(games, paired.notes.as_slice(), paired.pairings.as_slice())?;
+    check_notes(
+        rt.alloc(),
+        games,
+        paired.notes.as_slice(),
+        paired.pairings.as_slice(),
+    )?;
     Ok(paired)
 }
 
-// Whether a note is of a board of these pairings, with its players. It fails where it is not.
-fn check_note(file: &str, note: &Note, pairings: &[Pairing]) -> Result<()> {
-    if pairings.iter().any(|pairing| is_of(note, pairing)) {
-        return Ok(());
+/// Who plays at a board, as it is told: White against Black, and of a bye, of which Black is empty, whose it is.
+pub fn sides_text(alloc: Global, white: &str, black: &str) -> Result<String, AllocError>
+    ensures { IfOk result (λ text. string_bytes text ≡ spec.sides_text white.now black.now) }
+{
+    let mut text = String::new(alloc);
+    if black.is_empty() {
+        text.push_str("the bye of ")?;
+        text.push_str(white)?;
+    } else {
+        text.push_str(white)?;
+        text.push_str(" against ")?;
+        text.push_str(black)?;
     }
-    let board = note.board;
-    let (white, black) = (note.white.as_str(), note.black.as_str());
-    bail!("{file} is of other pairings: it has {white} against {black} at board {board}")
+    Ok(text)
+}
+
+/// The name of who has Black, empty where that is nobody.
+pub fn black_name(against: &Against) -> &str {
+    match against {
+        Against::Bye(_) => "",
+        Against::Game(game) => game.black.as_str(),
+    }
+}
+
+// Whether a note is of a board of these pairings, with its players. It fails where it is not.
+fn check_note(alloc: Global, file: &str, note: &Note, pairings: &[Pairing]) -> Result<()> {
+    let (board, white, black) = (note.board, note.white.as_str(), note.black.as_str());
+    for pairing in pairings {
+        let (first, second) = (pairing.white.as_str(), black_name(&pairing.against));
+        if pairing.board == board && first == white && second == black {
+            return Ok(());
+        }
+    }
+    let sides = sides_text(alloc, white, black)?;
+    bail!("{file} is of other pairings: it has {sides} at board {board}")
 }
 
 /// Whether each note is of a board of these pairings, with its players. It fails at the first that is not.
-pub fn check_notes(file: &str, notes: &[Note], pairings: &[Pairing]) -> Result<()> {
+pub fn check_notes(alloc: Global, file: &str, notes: &[Note], pairings: &[Pairing]) -> Result<()> {
     for note in notes {
-        check_note(file, note, pairings)?;
+        check_note(alloc, file, note, pairings)?;
     }
     Ok(())
-}
-
-// Whether a note is of a pairing.
-fn is_of(note: &Note, pairing: &Pairing) -> bool {
-    match pairing.against {
-        Against::Bye(_) => false,
-        Against::Game(game) => {
-            note.board == pairing.board
-                && note.white.as_str() == pairing.white.as_str()
-                && note.black.as_str() == game.black.as_str()
-        }
-    }
 }

@@ -2,14 +2,17 @@
 //! game, and the word that goes it with all of them.
 //!
 //! Modules: `start_word` goes round the boards, `asked` has what is asked of it; `files` reads pairings and notes,
-//! `checks` has what is asked of pairings first, `round_file` puts notes, `said` those of what the arbiter said,
-//! `token` reads an arbiter's token, `lobby` is the connection to the lobby, `table` what is told of the table, `board`
-//! the way of one board to its game, `seating` puts a board that an arbiter has paired to the files of its round.
+//! `decisions` arbiters' decisions, `checks` has what is asked of pairings first, `round_file` puts notes, `said` those
+//! of what the arbiter said, `token` reads an arbiter's token, `lobby` is the connection to the lobby, `table` what is
+//! told of the table, `board` the way of one board to its game, `seating` puts a board that an arbiter has paired to
+//! the files of its round. `specs/Told` says how it is told who plays at a board, and `specs/Waits` which board waits
+//! for its start, and which gets no game.
 #![tactic(auto)]
 
 mod asked;
 mod board;
 mod checks;
+mod decisions;
 mod files;
 mod lobby;
 mod round_file;
@@ -22,7 +25,8 @@ mod token;
 pub use asked::{Round, Said, Seating, Starting};
 pub use board::{Became, Board, boards_of};
 pub use checks::{check_players, check_times};
-pub use files::{Paired, check_notes, paired_of, pairings_of};
+pub use decisions::{check_verdict, decisions_in, decisions_of};
+pub use files::{Paired, black_name, check_notes, noted_game, paired_of, pairings_of, sides_text};
 pub use lobby::LobbyLink;
 pub use round_file::RoundFile;
 pub use said::take_words;

@@ -1,5 +1,6 @@
 //! What the arbiter said of boards.
 use crate::board::Board;
+use crate::files::noted_game;
 use crate::round_file::RoundFile;
 use anyhow::Result;
 use night_rounds::{Stage, is_newer};
@@ -26,7 +27,7 @@ fn is_after(file: &RoundFile, board: u32, game: u32) -> bool {
 // Notes the game that the arbiter said is a board's, where that was not noted before.
 fn take_game(file: &mut RoundFile, boards: &[Board], number: u32, game: u32) -> Result<()> {
     let board = board_of(boards, number)?;
-    if file.game_of(number) == Some(game) {
+    if noted_game(file.notes(), number) == Some(game) {
         return Ok(());
     }
     file.put(board.note(Stage::Opened(game)))

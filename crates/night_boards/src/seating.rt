@@ -115,7 +115,7 @@ where
     };
     check_short(rt, games).context(format_args!("writing {games}"))?;
     let mut noted = RoundFile::open(rt, games)?;
-    check_notes(games, noted.notes(), pairings.as_slice())?;
+    check_notes(rt.alloc(), games, noted.notes(), pairings.as_slice())?;
     let boards = boards_of(rt.alloc(), pairings.as_slice(), &[])?;
     take_words(&mut noted, boards.as_slice(), &[(seating.board, game)], &[])
 }

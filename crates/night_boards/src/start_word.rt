@@ -1,8 +1,13 @@
 //! The word that opens the games of a round.
+ghost use Rattle.std.specs.Prelude.{◌≡◌};
+ghost use Rattle.night_rounds.specs.Notes as notes_spec;
+ghost use Rattle.night_boards.specs.Waits as spec;
+
 use crate::asked::Starting;
 use crate::board::{Became, Board, boards_of};
 use crate::checks::{check_players, check_times};
-use crate::files::{check_notes, pairings_of};
+use crate::decisions::{closed_by, decisions_by_now};
+use crate::files::{check_notes, noted_game, pairings_of};
 use crate::lobby::LobbyLink;
 use crate::round_file::RoundFile;
 use crate::said::take_words;
@@ -11,7 +16,7 @@ use anyhow::{Context, Error, Result};
 use command_lines::{tell, unix_time};
 use jiff::Timestamp;
 use lobby_players::players_of;
-use night_rounds::{Against, Pairing};
+use night_rounds::{Against, Note, Pairing, verdict_text};
 use std::fs::File;
 use std::net::{Net, SocketAddr, TcpStream};
 use std::random::RandomSource;
@@ -22,23 +27,23 @@ use std::time::Duration;
 // How often it is looked for the lobby, and for boards whose start has come: the milliseconds between.
 const PAUSE: u64 = 500;
 
-/// The lobby, and an arbiter's token.
-#[derive(Clone, Copy)]
-struct Arbiter<'a> {
-    lobby: SocketAddr,
-    token: &'a str,
-}
-
 /// What became of the boards of a round.
 #[derive(Drop)]
-struct Rounds<'a, R> {
+struct Rounds<'a, 'b, R> {
     rt: &'a R,
-    arbiter: Arbiter<'a>,
+    lobby: SocketAddr,
+    // An arbiter's token.
+    token: &'a str,
+    // The file of arbiters' decisions, where one is named.
+    decisions: Option<&'b str>,
+    pairings: Vec<Pairing>,
     file: RoundFile,
-    // The boards, by their numbers, of which the arbiter is asked.
-    asks: Vec<u32>,
-    // Those that have their games and were told.
-    done: Vec<u32>,
+    // The boards, by their numbers, of which it was told what became of them.
+    settled: Vec<u32>,
+    // How many of these have their games.
+    games: usize,
+    // How many get none, since an arbiter has decided about them.
+    decided: usize,
     // Whether nobody could be told.
     is_unheard: bool,
     // Whether the lobby takes the token for no arbiter's.
@@ -53,9 +58,27 @@ fn moment<R: Clock>(rt: &R) -> Result<i64> {
     }
 }
 
-impl<'a, R> Rounds<'a, R>
+// Whether a board waits for its start: it has no game by its notes, and its start lies ahead.
+fn waits(notes: &[Note], board: u32, start: Option<i64>, now: i64) -> bool
+    ensures { result ≡ spec.waits (spec.noted_game (notes_spec.last_of board notes.now)) start now }
+{
+    match start {
+        Some(start) => noted_game(notes, board).is_none() && now < start,
+        None => false,
+    }
+}
+
+impl<'a, 'b, R> Rounds<'a, 'b, R>
 where
-    R: Net<Stream = TcpStream> + RandomSource + AllocGlobal + Clock + Clone + Drop + Print + Eprint,
+    R: Files
+        + Net<Stream = TcpStream>
+        + RandomSource
+        + AllocGlobal
+        + Clock
+        + Clone
+        + Drop
+        + Print
+        + Eprint,
 {
     // Whether it cannot go on.
     fn has_failed(&self) -> bool {
@@ -68,15 +91,7 @@ where
         let number = board.pairing.board;
         let (white, black) = (board.pairing.white.as_str(), board.game.black.as_str());
         println!(rt; "board {number}: game {game}, {white} against {black}")?;
-        self.done.push(number)?;
-        Ok(())
-    }
-
-    // Asks the arbiter about a board.
-    fn tell_question(&mut self, board: &Board) -> Result<()> {
-        let question = board.question(&self.file)?;
-        tell(self.rt, question.as_str())?;
-        self.asks.push(board.pairing.board)?;
+        self.games = self.games.saturating_add(1);
         Ok(())
     }
 
@@ -85,8 +100,12 @@ where
         self.is_unheard = true;
         match became {
             Became::Has(game) => self.tell_game(board, game)?,
-            Became::Asks => self.tell_question(board)?,
+            Became::Asks => {
+                let question = board.question(&self.file)?;
+                tell(self.rt, question.as_str())?;
+            }
         }
+        self.settled.push(board.pairing.board)?;
         self.is_unheard = false;
         Ok(())
     }
@@ -94,18 +113,37 @@ where
     // Whether nothing is to be done about a board now.
     fn rests(&self, board: &Board, now: i64) -> bool {
         let number = board.pairing.board;
-        let is_late = match board.game.start {
-            Some(start) => start <= now,
-            None => true,
+        self.settled.contains(&number) || waits(self.file.notes(), number, board.game.start, now)
+    }
+
+    // Settles the boards that get no game by the decisions there are by now, which is told.
+    fn settle_decided(&mut self, boards: &[Board]) -> Result<()> {
+        let Some(file) = self.decisions else {
+            return Ok(());
         };
-        !is_late || self.asks.contains(&number) || self.done.contains(&number)
+        let decisions = decisions_by_now(self.rt, file, self.pairings.as_slice())?;
+        for board in boards {
+            let number = board.pairing.board;
+            if !self.settled.contains(&number)
+                && let Some(decision) = closed_by(decisions.as_slice(), self.file.notes(), number)
+            {
+                let verdict = verdict_text(decision.verdict);
+                tell(
+                    self.rt,
+                    format_args!("board {number} is decided ({verdict}): no game is opened for it"),
+                )?;
+                self.settled.push(number)?;
+                self.decided = self.decided.saturating_add(1);
+            }
+        }
+        Ok(())
     }
 
     // Connects to the lobby as the arbiter. Where the token is no arbiter's, it cannot go on.
     fn link(&mut self) -> Result<LobbyLink<'a, R>> {
-        let lobby = self.arbiter.lobby;
+        let lobby = self.lobby;
         let mut link = LobbyLink::open(self.rt, lobby)?;
-        if !link.log_in(self.arbiter.token)? {
+        if !link.log_in(self.token)? {
             self.is_barred = true;
             anyhow::bail!("the lobby at {lobby} knows no arbiter with this token");
         }
@@ -114,7 +152,7 @@ where
 
     // Goes on with a board over a connection.
     fn go_on_over(&mut self, link: &mut LobbyLink<'a, R>, board: &Board) -> Result<()> {
-        let (number, lobby) = (board.pairing.board, self.arbiter.lobby);
+        let (number, lobby) = (board.pairing.board, self.lobby);
         let became = board
             .go_on(link, &mut self.file)
             .context(format_args!("board {number}, by the lobby at {lobby}"))?;
@@ -150,9 +188,10 @@ where
         Ok(())
     }
 
-    // Goes on with each board whose start has come. It tells the first of the failures, after which a board may be gone
-    // on with again.
+    // Settles what is decided, and goes on with each board whose start has come. It tells the first of the failures,
+    // after which a board may be gone on with again.
     fn go_on(&mut self, boards: &[Board]) -> Result<()> {
+        self.settle_decided(boards)?;
         let now = moment(self.rt)?;
         let mut link = None;
         let mut first = Ok(());
@@ -181,7 +220,7 @@ where
         let mut told = String::new(self.rt.alloc());
         for _ in 0..u64::MAX {
             self.go_once(boards, &mut told)?;
-            if self.asks.len().saturating_add(self.done.len()) >= boards.len() {
+            if self.settled.len() >= boards.len() {
                 return Ok(());
             }
             thread::sleep(self.rt, Duration::from_millis(PAUSE));
@@ -189,11 +228,38 @@ where
         Ok(())
     }
 
+    // Tells which boards wait for their starts.
+    fn tell_waits(&self, boards: &[Board]) -> Result<()> {
+        // (that the clock is wrong is told later, each time that it is tried)
+        let now = moment(self.rt).unwrap_or(i64::MAX);
+        for board in boards {
+            let (number, start) = (board.pairing.board, board.game.start);
+            if !self.settled.contains(&number) && waits(self.file.notes(), number, start, now) {
+                let start = Timestamp::from_millisecond(start.unwrap_or(now))?;
+                tell(self.rt, format_args!("board {number} waits until {start}"))?;
+            }
+        }
+        Ok(())
+    }
+
+    // Tells how many boards have their games, of those that get one. It fails where not all have.
+    fn tell_end(&self, boards: usize) -> Result<()> {
+        let (rt, boards, games) = (self.rt, boards.saturating_sub(self.decided), self.games);
+        println!(rt; "boards {boards}, games {games}")?;
+        if games < boards {
+            anyhow::bail!(
+                "the arbiter is to say, by --take or --after, which games the others have"
+            );
+        }
+        Ok(())
+    }
+
     // Goes round the boards to the end, and tells how many have their games.
-    fn go_through(&mut self, boards: &[Board]) -> Result<usize> {
-        tell_waits(self.rt, boards)?;
+    fn go_through(&mut self, boards: &[Board]) -> Result<()> {
+        self.settle_decided(boards)?;
+        self.tell_waits(boards)?;
         self.go_round(boards)?;
-        Ok(self.done.len())
+        self.tell_end(boards.len())
     }
 }
 
@@ -203,27 +269,6 @@ fn tell_failure<R: AllocGlobal + Eprint>(rt: &R, told: &mut String, error: Error
     if text != *told {
         tell(rt, format_args!("{text}; it is tried again"))?;
         *told = text;
-    }
-    Ok(())
-}
-
-// Tells that a board waits for its start.
-fn tell_wait<R: Eprint>(rt: &R, number: u32, start: i64) -> Result<()> {
-    let start = Timestamp::from_millisecond(start)?;
-    tell(rt, format_args!("board {number} waits until {start}"))?;
-    Ok(())
-}
-
-// Tells which boards wait for their starts.
-fn tell_waits<R: Eprint + Clock>(rt: &R, boards: &[Board]) -> Result<()> {
-    // (that the clock is wrong is told later, each time that it is tried)
-    let now = moment(rt).unwrap_or(i64::MAX);
-    for board in boards {
-        if let Some(start) = board.game.start
-            && start > now
-        {
-            tell_wait(rt, board.pairing.board, start)?;
-        }
     }
     Ok(())
 }
@@ -244,17 +289,6 @@ fn tell_others<R: Eprint>(rt: &R, pairings: &[Pairing]) -> Result<()> {
     Ok(())
 }
 
-// Whether all players of pairings are in the players' file of this name. It fails at the first row where one is not.
-fn check_in_file<R: Files + AllocGlobal>(
-    rt: &R,
-    file: &str,
-    rows: &str,
-    pairings: &[Pairing],
-) -> Result<()> {
-    let players = players_of(rt, file)?;
-    check_players(players.as_slice(), pairings).context(rows)
-}
-
 // Whether pairings may be opened: by their players, where a file of these is named, and by their times.
 fn check_pairings<R: Files + AllocGlobal>(
     rt: &R,
@@ -263,7 +297,8 @@ fn check_pairings<R: Files + AllocGlobal>(
 ) -> Result<()> {
     let rows = starting.round.pairings;
     if let Some(file) = starting.players {
-        check_in_file(rt, file, rows, pairings)?;
+        let players = players_of(rt, file)?;
+        check_players(players.as_slice(), pairings).context(rows)?;
     }
     if starting.is_short {
         return Ok(());
@@ -271,48 +306,23 @@ fn check_pairings<R: Files + AllocGlobal>(
     check_times(pairings).context(rows)
 }
 
-// Puts what the arbiter said to the round's file. It fails where that is of other pairings.
-fn take_said(
-    file: &mut RoundFile,
-    starting: &Starting<'_>,
-    pairings: &[Pairing],
-    boards: &[Board],
-) -> Result<()> {
-    check_notes(starting.round.games, file.notes(), pairings)?;
-    let (takes, afters) = (
-        starting.said.takes.as_slice(),
-        starting.said.afters.as_slice(),
-    );
-    take_words(file, boards, takes, afters)
-}
-
-// The round's file with what the arbiter said.
+// The round's file with what the arbiter said. It fails where that is of other pairings.
 fn file_of<R: Files<File = File> + AllocGlobal + Eprint>(
     rt: &R,
     starting: &Starting<'_>,
     pairings: &[Pairing],
     boards: &[Board],
 ) -> Result<RoundFile> {
-    let mut file = RoundFile::open(rt, starting.round.games)?;
-    take_said(&mut file, starting, pairings, boards)?;
+    let (games, said) = (starting.round.games, &starting.said);
+    let mut file = RoundFile::open(rt, games)?;
+    check_notes(rt.alloc(), games, file.notes(), pairings)?;
+    take_words(
+        &mut file,
+        boards,
+        said.takes.as_slice(),
+        said.afters.as_slice(),
+    )?;
     Ok(file)
-}
-
-// Nothing has become of boards yet.
-fn rounds_of<'a, R: AllocGlobal>(
-    rt: &'a R,
-    arbiter: Arbiter<'a>,
-    file: RoundFile,
-) -> Rounds<'a, R> {
-    Rounds {
-        rt,
-        arbiter,
-        file,
-        asks: Vec::new(rt.alloc()),
-        done: Vec::new(rt.alloc()),
-        is_unheard: false,
-        is_barred: false,
-    }
 }
 
 // Opens the games of boards, and tells how many have theirs.
@@ -320,8 +330,9 @@ fn open_games<R>(
     rt: &R,
     starting: &Starting<'_>,
     file: RoundFile,
+    pairings: Vec<Pairing>,
     boards: &[Board],
-) -> Result<usize>
+) -> Result<()>
 where
     R: Files
         + Net<Stream = TcpStream>
@@ -334,25 +345,25 @@ where
         + Eprint,
 {
     let token = token_of(rt, starting.token_file)?;
-    let arbiter = Arbiter {
+    let decisions = starting.round.decisions;
+    let mut rounds = Rounds {
+        rt,
         lobby: starting.lobby,
         token: token.as_str(),
+        decisions,
+        pairings,
+        file,
+        settled: Vec::new(rt.alloc()),
+        games: 0,
+        decided: 0,
+        is_unheard: false,
+        is_barred: false,
     };
-    let mut rounds = rounds_of(rt, arbiter, file);
     rounds.go_through(boards)
 }
 
-// Tells how many boards have their games. It fails where not all have.
-fn tell_end<R: Print>(rt: &R, boards: usize, games: usize) -> Result<()> {
-    println!(rt; "boards {boards}, games {games}")?;
-    if games < boards {
-        anyhow::bail!("the arbiter is to say, by --take or --after, which games the others have");
-    }
-    Ok(())
-}
-
-/// Opens the game of each board that has times at its start, by what the round's file has, and notes which it is; which
-/// boards have none is told before.
+/// Opens the game of each board that has times at its start, by what the round's file has, and notes which it is; none
+/// where it has no game and an arbiter has decided about it. Which boards have no times is told before.
 pub fn start<R>(rt: &R, starting: &Starting<'_>) -> Result<()>
 where
     R: Files<File = File>
@@ -374,6 +385,5 @@ where
     )?;
     let file = file_of(rt, starting, pairings.as_slice(), boards.as_slice())?;
     tell_others(rt, pairings.as_slice())?;
-    let games = open_games(rt, starting, file, boards.as_slice())?;
-    tell_end(rt, boards.len(), games)
+    open_games(rt, starting, file, pairings, boards.as_slice())
 }

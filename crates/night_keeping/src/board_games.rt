@@ -7,9 +7,8 @@ ghost use Rattle.night_rounds.specs.Decisions.{decided, grounds};
 
 use anyhow::Result;
 use lobby_words::NameForm;
-use night_boards::{Paired, Round, paired_of};
+use night_boards::{Paired, Round, decisions_of, noted_game, paired_of};
 use night_games::BoardGame;
-use night_outcomes::{decisions_of, noted_game};
 use night_rounds::{Against, Decision, Ground, Verdict, decision_about, verdict_text};
 use std::alloc::{AllocError, Global};
 use std::rt::Files;

@@ -1,11 +1,11 @@
 //! An arbiter's decision about a board that is put to those of its round, or to its pairings: by the word `decide`, and
 //! by the lobby's.
 use crate::asked::Deciding;
-use crate::decisions::{black_name, check_verdict, put_decision};
+use crate::decisions::put_decision;
 use anyhow::{Context, Result, bail};
 use command_lines::unix_time;
 use lobby_words::{cut_word, number_named};
-use night_boards::{Seating, pairings_of, seat};
+use night_boards::{Seating, black_name, check_verdict, pairings_of, seat};
 use night_rounds::{
     Decision, Ground, Pairing, Players, Verdict, decision_of, decision_text, verdict_of,
     verdict_text,

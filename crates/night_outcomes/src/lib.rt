@@ -2,9 +2,10 @@
 //! them; and what an arbiter decides instead.
 //!
 //! Modules: `asked` has what is asked, `archived` reads the archive's games, `tags` the tags of a PGN, `outcomes` finds
-//! what came of a game by these or by the table, `laws` what the Laws say of that, `decisions` reads and writes the
-//! decisions of arbiters, `entrants` has the players of a tournament, `meetings` what was met in its rounds,
-//! `results_word` and `decide_word` do the words.
+//! what came of a game by these or by the table, `laws` what the Laws say of that, `decisions` writes the decisions
+//! of arbiters, `entrants` has the players of a tournament, `meetings` what was met in its rounds,
+//! `results_word` and `decide_word` do the words. `specs/Doubles` says which board a game counts for
+//! already.
 #![tactic(auto)]
 
 mod archived;
@@ -20,9 +21,8 @@ mod tags;
 
 pub use asked::{Asking, Deciding, Reporting, Source};
 pub use decide_word::{decide_in, decide_result};
-pub use decisions::decisions_of;
 pub use entrants::{entrants_of, shown_names};
 pub use laws::{FoundOut, Law};
 pub use meetings::{Met, met_in};
-pub use outcomes::{check_fault, noted_game};
+pub use outcomes::check_fault;
 pub use results_word::{players_in, write_results};

@@ -1,11 +1,10 @@
 //! What was met in the rounds of a tournament, as its report and its standings tell it.
 use crate::asked::Reporting;
-use crate::decisions::decisions_of;
 use crate::laws::Law;
 use crate::outcomes::{Boards, Ended, Outcomes};
 use anyhow::{Context, Result};
 use lobby_words::Player;
-use night_boards::{Round, paired_of};
+use night_boards::{Round, decisions_of, paired_of};
 use night_report::{Meeting, Opponent, Particulars, Play, Score};
 use night_rounds::{Against, Decision, Pairing, Scored, bye_counted, counted};
 use player_name::Name;

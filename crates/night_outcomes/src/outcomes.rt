@@ -1,4 +1,8 @@
 //! What came of games: in the archive, and on the table.
+ghost use Rattle.std.specs.Prelude.{◌≡◌};
+ghost use Rattle.std.specs.Option.{option_copied};
+ghost use Rattle.night_outcomes.specs.Doubles as spec;
+
 use crate::archived::ArchivedGames;
 use crate::asked::Source;
 use crate::laws::{Law, is_asked, law_of, said_by_law};
@@ -7,11 +11,10 @@ use anyhow::{Result, bail};
 use command_lines::tell;
 use lobby_players::full_name;
 use lobby_words::Player;
+use night_boards::noted_game;
 use night_links::{Answer, Link, refused};
 use night_report::Bye;
-use night_rounds::{
-    Against, Decision, Note, Pairing, Verdict, decision_about, game_in, last_of, verdict_text,
-};
+use night_rounds::{Against, Decision, Note, Pairing, Verdict, decision_about, verdict_text};
 use player_name::Name;
 use server_answers::{Refusal, Seats, Shown, refusal_of, result_text, shown_of};
 use sockets::ServerAddress;
@@ -57,6 +60,26 @@ enum Server {
     Away(String),
 }
 
+// A game that counts for a board, and which that is.
+#[derive(Drop)]
+struct Counted {
+    game: u32,
+    place: String,
+}
+
+// The last of these boards for which a game counts.
+fn counted_for(counted: &[Counted], game: u32) -> Option<&Counted>
+    ensures { option_copied result ≡ spec.counted_for game counted.entry.now }
+{
+    let mut found = None;
+    for one in counted {
+        if one.game == game {
+            found = Some(one);
+        }
+    }
+    found
+}
+
 /// Where it is looked for what came of games.
 #[derive(Drop)]
 pub struct Outcomes<'a> {
@@ -72,6 +95,10 @@ pub struct Outcomes<'a> {
     has_others: bool,
     // Whether a board's game was played on as another.
     has_halves: bool,
+    // The games that count for boards.
+    counted: Vec<Counted>,
+    // Whether a game counts for two boards.
+    has_doubles: bool,
 }
 
 /// A board of a round, as it is asked for: the file of the pairings, what was noted, and the decisions of arbiters.
@@ -108,14 +135,6 @@ fn going_on(ended: &Ended) -> &'static str {
         "its game goes on"
     } else {
         ""
-    }
-}
-
-/// The game of a board, where it was opened and noted.
-pub fn noted_game(notes: &[Note], board: u32) -> Option<u32> {
-    match last_of(notes, board) {
-        Some(note) => game_in(&note.stage),
-        None => None,
     }
 }
 
@@ -251,6 +270,8 @@ impl<'a> Outcomes<'a> {
             laws: Vec::new(rt.alloc()),
             has_others: false,
             has_halves: false,
+            counted: Vec::new(rt.alloc()),
+            has_doubles: false,
         })
     }
 
@@ -500,6 +521,34 @@ impl<'a> Outcomes<'a> {
         Ok(Some(why))
     }
 
+    // That a board's game counts for another one too, which was asked for before. It counts for none about which an
+    // arbiter has decided.
+    fn double_of(
+        &mut self,
+        boards: Boards<'_>,
+        board: u32,
+        game: Option<u32>,
+    ) -> Result<Option<String>, AllocError> {
+        let Some(game) = game else {
+            return Ok(None);
+        };
+        if decision_about(boards.decisions, board).is_some() {
+            return Ok(None);
+        }
+        let why = match counted_for(self.counted.as_slice(), game) {
+            Some(counted) => {
+                let place = counted.place.as_str();
+                Some(format!(in self.alloc; "game {game} counts for {place} too")?)
+            }
+            None => None,
+        };
+        let file = boards.file;
+        let place = format!(in self.alloc; "board {board} of {file}")?;
+        self.counted.push(Counted { game, place })?;
+        self.has_doubles = self.has_doubles || why.is_some();
+        Ok(why)
+    }
+
     // Has it told later what is to be told of a board, where that is anything.
     fn put_word(&mut self, file: &str, board: u32, why: &str) -> Result<(), AllocError> {
         if why.is_empty() {
@@ -556,9 +605,12 @@ impl<'a> Outcomes<'a> {
         found: Found,
         why: &str,
     ) -> Result<Told, AllocError> {
-        let half = self.half_of(board, noted_game(boards.notes, board))?;
+        let game = noted_game(boards.notes, board);
+        let half = self.half_of(board, game)?;
         self.put_words(boards, board, &found, &half)?;
+        let double = self.double_of(boards, board, game)?;
         let note = joined(self.alloc, why, half)?;
+        let note = joined(self.alloc, note.as_str(), double)?;
         self.put_word(boards.file, board, note.as_str())?;
         Ok(Told {
             ended: found.ended(),
@@ -566,9 +618,10 @@ impl<'a> Outcomes<'a> {
         })
     }
 
-    /// What is known of a board's game. Where nothing came of it, it goes on or was played on as another, where the
-    /// Laws say something of its result or an arbiter decided otherwise, there is a word to be told. The archive is
-    /// read again where the server has not got a game that was not in it yet.
+    /// What is known of a board's game. Where nothing came of it, it goes on or was played on as another, where it
+    /// counts for a board that was asked for before, where the Laws say something of its result or an arbiter decided
+    /// otherwise, there is a word to be told. The archive is read again where the server has not got a game that was
+    /// not in it yet.
     pub fn of<R: Files + AllocGlobal + Eprint>(
         &mut self,
         rt: &R,
@@ -605,8 +658,8 @@ impl<'a> Outcomes<'a> {
         Ok(())
     }
 
-    /// What was wrong, though all boards were told: lines of the archive that were left out, a server that is away, or
-    /// the result of a game that was played on as another.
+    /// What was wrong, though all boards were told: lines of the archive that were left out, a server that is away, the
+    /// result of a game that was played on as another, or a game that counts for two boards.
     pub fn fault(&self) -> Option<&'static str> {
         if !self.archived.faults.is_empty() {
             Some("lines of the archive were left out")
@@ -614,6 +667,8 @@ impl<'a> Outcomes<'a> {
             Some("the server is away")
         } else if self.has_halves {
             Some("a board has the result of a game that was adjourned and played on")
+        } else if self.has_doubles {
+            Some("a game counts for two boards")
         } else {
             None
         }

@@ -1,11 +1,10 @@
 //! The word that writes the results of a round.
 use crate::asked::Asking;
-use crate::decisions::{black_name, decisions_of};
-use crate::outcomes::{Boards, Outcomes, Told, check_fault, noted_game};
+use crate::outcomes::{Boards, Outcomes, Told, check_fault};
 use anyhow::Result;
 use lobby_players::players_of;
 use lobby_words::Player;
-use night_boards::{Paired, paired_of};
+use night_boards::{Paired, black_name, decisions_of, noted_game, paired_of};
 use night_report::Bye;
 use night_rounds::{Against, Decision, Note, Outcome, Pairing, results};
 use std::alloc::{AllocError, Global};
@@ -166,8 +165,8 @@ where
     write_round(rt, asking, players, &paired, decisions.as_slice())
 }
 
-/// Writes the results of a round as CSV. It fails behind that where a board's game is of others than its players, or
-/// was played on as another, where a line of the archive was left out, or the server is away.
+/// Writes the results of a round as CSV. It fails behind that where a board's game is of others than its players, was
+/// played on as another or counts for two, where a line of the archive was left out, or the server is away.
 pub fn write_results<R>(rt: &R, asking: &Asking<'_>) -> Result<()>
 where
     R: Files + Net<Stream = TcpStream> + AllocGlobal + Print + Eprint,

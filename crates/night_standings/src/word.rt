@@ -8,9 +8,9 @@ use crate::texts::Table;
 use anyhow::{Result, ensure};
 use lobby_players::players_of;
 use lobby_words::Player;
-use night_boards::{Paired, Round, paired_of};
+use night_boards::{Paired, Round, noted_game, paired_of};
 use night_games::{last_line_of, roster_in};
-use night_outcomes::{Law, Met, check_fault, entrants_of, met_in, noted_game, shown_names};
+use night_outcomes::{Law, Met, check_fault, entrants_of, met_in, shown_names};
 use night_report::{Meeting, Particulars, teams_of};
 use std::alloc::{AllocError, Global};
 use std::io::{self, Write};
@@ -179,8 +179,8 @@ where
 
 /// Writes the standings of a tournament or of its teams, the crosstable, or both with the rounds for the page, or the
 /// report; none where a board's game is of others than its players, or a board of teams is of no match. It fails behind
-/// that where a board has the result of a game that was played on as another, where a line of the archive was left out,
-/// or the server is away; and of a report where a board has no result.
+/// that where a board has the result of a game that was played on as another, where a game counts for two boards, a line
+/// of the archive was left out, or the server is away; and of a report where a board has no result.
 pub fn write_standings<R>(rt: &R, asked: &Standing<'_>) -> Result<()>
 where
     R: Files + Net<Stream = TcpStream> + AllocGlobal + Print + Eprint,
