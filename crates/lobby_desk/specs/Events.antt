@@ -1,6 +1,7 @@
 -- What comes in and what goes out.
 use Rattle.std.specs.Prelude.{ℕ, Bool, true, false, not, ◌==◌, if◌then◌else◌, List, [], ◌∷◌, ◌++◌, codes, map, Option}
 use Rattle.std.specs.Prelude.{None, Some}
+use Rattle.std.specs.Str.{bytes_eq}
 use Rattle.std.specs.String.{string_bytes}
 use Rattle.lobby_desk.specs.declared.telling.Kind.{Kind}
 use Rattle.lobby_desk.specs.declared.telling.Kind.TheVariants as kinds
@@ -67,6 +68,11 @@ to_one_as c kind text = record { to = c ∷ []; kind = kind; text = text }
 
 abbrev pub to_one : ℕ → List ℕ → MessageValue
 to_one c text = to_one_as c kinds.Whole text
+
+-- whether a message of this kind and text tells that what players offer each other is other than before
+abbrev pub is_offers : Kind → List ℕ → Bool
+is_offers kinds.Whole text = bytes_eq text (codes "offers\n")
+is_offers _ text = false
 
 -- a text for the log
 abbrev pub to_log : List ℕ → MessageValue

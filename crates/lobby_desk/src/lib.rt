@@ -25,4 +25,4 @@ pub use law::{
 pub use limits::Limits;
 pub use lobby_players::{Finding, Halts};
 pub use lobby_words::Order;
-pub use telling::{Kind, Message};
+pub use telling::{Kind, Message, is_offers};

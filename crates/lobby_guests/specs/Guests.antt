@@ -11,7 +11,7 @@ use Rattle.std.specs.Str.{bytes_eq}
 use Rattle.std.specs.String.{string_bytes}
 use Rattle.websocket.specs.Content.{text as Text, ping as Ping}
 use Rattle.lobby_desk.specs.declared.telling.Message.{Message}
-use Rattle.lobby_desk.specs.Events.{Closed}
+use Rattle.lobby_desk.specs.Events.{Closed, is_offers}
 use Rattle.lobby_desk.specs.declared.desk.Desk.{Desk}
 use Rattle.lobby_desk.specs.Who.{IsReady, is_owed}
 use Rattle.lobby_web.specs.declared.site.Site.{Site}
@@ -596,11 +596,30 @@ pub record IsTold {S : Type 0} (at : ℕ) (made : Message) (old new : Guest S) :
   pub number : new.number ≡ old.number
   pub given : IsGivenIf (is_for old.number made.to.items) at made old new
 
--- all of these, in their order
+-- Whether a message is `offers`, and so is the last one that a browser was told: it says nothing more.
+abbrev pub is_repeated : Bool → Message → Bool
+is_repeated last one = last && is_offers one.kind (string_bytes one.text)
+
+-- A message that is so is not told; of any other it is told what is for it.
+abbrev pub IsToldUnless : {S : Type 0} → Bool → ℕ → Message → Guest S → Guest S → Type 0
+IsToldUnless true at one old new = new ≡ old
+IsToldUnless false at one old new = IsTold at one old new
+
+-- whether the last one that a browser of this number was told is `offers`, behind such a message or another
+abbrev pub last_told : Bool → Bool → Option ℕ → Message → Bool
+last_told true last number one = true
+last_told false last number one = if is_for number one.to.items then is_offers one.kind (string_bytes one.text) else last
+
+-- all of these, in their order, where the last one before them was `offers` or not
+abbrev pub AreToldBehind : {S : Type 0} → Bool → ℕ → List Message → Guest S → Guest S → Type 0
+AreToldBehind last at [] old new = new ≡ old
+AreToldBehind {S = S} last at (one ∷ made) old new =
+    (between : Guest S) × IsToldUnless (is_repeated last one) at one old between
+    × AreToldBehind (last_told (is_repeated last one) last old.number one) at made between new
+
+-- all that go out at once
 abbrev pub AreTold : {S : Type 0} → ℕ → List Message → Guest S → Guest S → Type 0
-AreTold at [] old new = new ≡ old
-AreTold {S = S} at (one ∷ made) old new =
-    (between : Guest S) × IsTold at one old between × AreTold at made between new
+AreTold at made old new = AreToldBehind false at made old new
 
 -- The first message that waits is told, by the answer that is there now or as it is, and its time is taken for that.
 pub record IsNextTold {S : Type 0} (at : ℕ) (one : Waiting) (old new : Guest S) : Type 0 where
@@ -665,7 +684,8 @@ abbrev pub has_waiting : {S : Type 0} → List (Guest S) → Talk → Bool
 has_waiting guests talk = is_some talk.replay || is_some (first_wanted guests)
 
 -- At a moment each browser is told those of these messages that are for its connection, whole and in their order, as
--- they go out; but behind an answer that is not there yet they wait. Then the replay under way goes on, or one begins
+-- they go out, but of several `offers` with none between them that is for it the first; and behind an answer that is not
+-- there yet they wait. Then the replay under way goes on, or one begins
 -- for what waits longest. Where that brings an answer, the first who waits for it is told it, and what stands behind
 -- it, up to the next such, and it is kept. One whose socket may say nothing is told nothing, and one for which there is
 -- no room or memory has its socket ended.

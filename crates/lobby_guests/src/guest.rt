@@ -4,7 +4,7 @@ ghost use Rattle.std.specs.Prelude.{IsTrue, OnOk, IfOk, ◌⊎◌};
 ghost use Rattle.lobby_desk.specs.Who.{IsReady, at_table};
 ghost use Rattle.lobby_guests.specs.Guests.{has_time, IsNewGuest, ComesFrom, IsRead, IsStill};
 ghost use Rattle.lobby_guests.specs.Guests.{IsHeardAs, IsHeard, IsAsked, is_untimely, MaySpeak, MayBeAsked, IsSaid};
-ghost use Rattle.lobby_guests.specs.Guests.{IsTold, is_free};
+ghost use Rattle.lobby_guests.specs.Guests.{IsTold, IsToldUnless, is_repeated, last_told, is_free};
 ghost use Rattle.lobby_guests.specs.Guests.{NotesLogin, IsPutBehind, IsNextTold, IsCaughtUp, IsSameVisit};
 ghost use Rattle.lobby_guests.specs.Guests.{is_first, IsAnsweredAt};
 ghost use Rattle.lobby_guests.specs.Guests.{AreTold, IsPinged, IsAskedUnless, IsSettled, IsWritten};
@@ -27,7 +27,7 @@ ghost use Rattle.lobby_guests.specs.Place.{role_of, work_of, place_of, Yields};
 use crate::origin::Origin;
 use crate::place::{Place, Role, Work, is_gone, number_of};
 use crate::waiting::{Waiting, is_line};
-use lobby_desk::{Kind, Message};
+use lobby_desk::{Kind, Message, is_offers};
 use lobby_talk::{
     Asked, Coming, Counts, Gone, KeepsLinks, KeptAnswer, NOTHING_ASKED, PIECE_ROOM, Talk, has_act,
     is_answer, is_refused_login, say_to_desk, write_piece,
@@ -543,32 +543,42 @@ impl<S> Guest<S> {
         }
     }
 
-    // It is told a message, if that goes to it.
+    // It is told a message, if that goes to it, and is no `offers` behind another, which would say nothing more. It
+    // tells whether the last one that it was told is `offers`.
     fn be_told(
         &mut self,
         alloc: Global,
         made: &Message,
+        is_behind: bool,
         counts: &mut Counts,
-    ) -> Result<(), AllocError>
-        ensures told { OnOk result (IsTold counts.old.at made.now self.old self.new) }
+    ) -> Result<bool, AllocError>
+        ensures told { OnOk result (IsToldUnless (is_repeated is_behind made.now) counts.old.at made.now
+            self.old self.new) }
+        ensures last { IfOk result (λ last.
+            last ≡ last_told (is_repeated is_behind made.now) is_behind self.old.number made.now) }
         ensures logins { OnOk result (counts.new.logins_refused
             ≡ counted_up counts.old.logins_refused (one_if (refuses self.old.number made.now))) }
         ensures at { OnOk result (counts.new.at ≡ counts.old.at) }
     {
+        let is_offers = is_offers(made);
+        if is_behind && is_offers {
+            return Ok(true);
+        }
         match self.number {
-            None => Ok(()),
+            None => Ok(is_behind),
             Some(number) => {
-                if is_among(made.to.as_slice(), number) {
-                    self.pass_on(alloc, made, counts)
-                } else {
-                    Ok(())
+                if !is_among(made.to.as_slice(), number) {
+                    return Ok(is_behind);
                 }
+                self.pass_on(alloc, made, counts)?;
+                Ok(is_offers)
             }
         }
     }
 
-    /// It is told those of these messages that go to it, in their order; but what comes behind an answer that is not
-    /// there yet waits, as that does. It fails where memory is refused.
+    /// It is told those of these messages that go to it, in their order, but of several `offers` with none between them
+    /// that goes to it the first; and what comes behind an answer that is not there yet waits, as that does. It fails
+    /// where memory is refused.
     pub fn be_told_all(
         &mut self,
         alloc: Global,
@@ -580,8 +590,9 @@ impl<S> Guest<S> {
             ≡ counted_up counts.old.logins_refused (refusals_of made.now self.old.number)) }
         ensures at { OnOk result (counts.new.at ≡ counts.old.at) }
     {
+        let mut is_behind = false;
         for one in made {
-            self.be_told(alloc, one, counts)?;
+            is_behind = self.be_told(alloc, one, is_behind, counts)?;
         }
         Ok(())
     }

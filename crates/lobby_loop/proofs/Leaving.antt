@@ -4,7 +4,7 @@ use Rattle.std.specs.List.{AllZip}
 use Rattle.lobby_desk.specs.declared.telling.Message.{Message}
 use Rattle.lobby_guests.specs.declared.guest.Guest.{Guest}
 use Rattle.lobby_guests.specs.declared.waiting.Waiting.{Waiting}
-use Rattle.lobby_guests.specs.Guests.{StaysLost, MayFail, IsSaid, is_cut, IsPassedOn, IsGiven, IsGivenIf, AreTold, AreNextTold, IsCaughtUp, IsWritten, IsSettled}
+use Rattle.lobby_guests.specs.Guests.{StaysLost, MayFail, IsSaid, is_cut, IsPassedOn, IsGiven, IsGivenIf, is_repeated, last_told, IsToldUnless, AreToldBehind, AreTold, AreNextTold, IsCaughtUp, IsWritten, IsSettled}
 use Rattle.lobby_loop.specs.declared.hall.Hall.{Hall}
 use Rattle.lobby_loop.specs.Turning.{HasTurned}
 
@@ -36,10 +36,18 @@ module _ {S : Type 0} where
   given_lost true at made x y given = λ is.
       passed_lost _ at made given.noted y given.passed (given.notes.lost ∙ or_front x.is_lost _ is)
 
+  unless_lost : (repeated : Bool) (at : ℕ) (one : Message) (x y : Guest S) → IsToldUnless repeated at one x y → StaysLost x y
+  unless_lost true at one x y same = same_lost x y same
+  unless_lost false at one x y told = given_lost _ at one x y told.given
+
+  behind_lost : (last : Bool) (at : ℕ) (made : List Message) (x y : Guest S) → AreToldBehind last at made x y → StaysLost x y
+  behind_lost last at [] x y same = same_lost x y same
+  behind_lost last at (one ∷ made) x y (between, told, are) = λ is.
+      behind_lost (last_told (is_repeated last one) last x.number one) at made between y are
+      (unless_lost (is_repeated last one) at one x between told is)
+
   told_lost : (at : ℕ) (made : List Message) (x y : Guest S) → AreTold at made x y → StaysLost x y
-  told_lost at [] x y same = same_lost x y same
-  told_lost at (one ∷ made) x y (between, told, are) = λ is.
-      told_lost at made between y are (given_lost _ at one x between told.given is)
+  told_lost at made x y are = behind_lost false at made x y are
 
   next_lost : (at : ℕ) (front : List Waiting) (x y : Guest S) → AreNextTold at front x y → StaysLost x y
   next_lost at [] x y same = same_lost x y same

@@ -9,7 +9,7 @@ use Rattle.lobby_talk.specs.declared.talk.Talk.{Talk}
 use Rattle.lobby_guests.specs.declared.guest.Guest.{Guest}
 use Rattle.lobby_guests.specs.declared.waiting.Waiting.{Waiting}
 use Rattle.lobby_guests.specs.Waiting.{is_line, must_wait, AtLine}
-use Rattle.lobby_guests.specs.Guests.{IsAsBefore, IsHeard, IsAttended, InTurn, full_room, full_asking, next_name, IsPassedOn, IsGivenIf, AreTold, IsCaughtUp, IsWritten, IsLookedAfter, IsSettled}
+use Rattle.lobby_guests.specs.Guests.{IsAsBefore, IsHeard, IsAttended, InTurn, full_room, full_asking, next_name, IsPassedOn, IsGivenIf, is_repeated, last_told, IsToldUnless, AreToldBehind, AreTold, IsCaughtUp, IsWritten, IsLookedAfter, IsSettled}
 use Rattle.lobby_guests.proofs.Attending.{players_pass, others_pass}
 use Rattle.lobby_loop.specs.declared.hall.Hall.{Hall}
 use Rattle.lobby_loop.specs.Turning.{HasTurned, is_look_time}
@@ -42,10 +42,18 @@ module _ {S : Type 0} where
       passed_line (must_wait x.waits.items made.kind) at made given.noted y (ap (λ v. must_wait v.items made.kind) still.waits)
       given.passed (same_line x given.noted still.waits is)
 
+  unless_line : (repeated : Bool) (at : ℕ) (one : Message) (x y : Guest S) → IsToldUnless repeated at one x y → Lines x y
+  unless_line true at one x y same = same_line x y (ap (λ (guest : Guest S). guest.waits) same)
+  unless_line false at one x y told = given_line _ at one x y told.given
+
+  behind_told : (last : Bool) (at : ℕ) (made : List Message) (x y : Guest S) → AreToldBehind last at made x y → Lines x y
+  behind_told last at [] x y same = same_line x y (ap (λ (guest : Guest S). guest.waits) same)
+  behind_told last at (one ∷ made) x y (between, told, are) = λ is.
+      behind_told (last_told (is_repeated last one) last x.number one) at made between y are
+      (unless_line (is_repeated last one) at one x between told is)
+
   told_line : (at : ℕ) (made : List Message) (x y : Guest S) → AreTold at made x y → Lines x y
-  told_line at [] x y same = same_line x y (ap (λ (guest : Guest S). guest.waits) same)
-  told_line at (one ∷ made) x y (between, told, are) = λ is.
-      told_line at made between y are (given_line _ at one x between told.given is)
+  told_line at made x y are = behind_told false at made x y are
 
   heard_line : (at : ℕ) (x y : Guest S) (old new : Talk) → IsHeard at x y old new → Lines x y
   heard_line at x y old new (inl asked) = same_line x y asked.waits

@@ -38,7 +38,7 @@ use Rattle.lobby_loop.specs.Turning.{BeginsHall, Admits, ServerComes, IsServerAs
 use Rattle.lobby_loop.specs.Doing.{Gave, Spot, spot, DoesAt, all_tells, around, IsServed, AreServed, WereServed, AreAtLine, Before}
 use Rattle.lobby_loop.specs.Living.{Happening, Came, Woke, ServerCame, Turned, IsWoken, IsLife, left, written_in, taken_in, put_in, lost_if, kept, sent_in, line_more, lines_heard, notices_in, passed_in, notice_more, notices_told, IsHeld, IsOther, HasNone, IsOneOf, AreKnown, IsOwn, AreOwn, numbers, NoLineWaits, IsRightLife, Passing, TurnAt, Rested, IsLobbyLife, Filed, Files, before_in, Changed, Relisted, Learned, Notes, Enrolled, Noticed}
 use Rattle.lobby_loop.proofs.Lined.{same_line, lines_by, lines_filter, lines_both, turn_lines}
-use Rattle.lobby_loop.proofs.Serving.{IsApart, ApartFrom, AreApart, served_before, served_read, served_looked, served_written, served_told, served_caught_up, gave_nothing, gave_again, gave_early, gave_opened, gave_text, all_served_on, all_served_zip, all_served_filter, all_served_more, all_came, served_new, ClosedIf, AllClosed, closed_if_on, all_were_on, all_were_out, all_were_came, all_let_go, came_more, site_more, all_filed, all_were_filed}
+use Rattle.lobby_loop.proofs.Serving.{IsApart, ApartFrom, AreApart, served_before, served_read, served_looked, served_written, behind_number, served_told, served_caught_up, gave_nothing, gave_again, gave_early, gave_opened, gave_text, all_served_on, all_served_zip, all_served_filter, all_served_more, all_came, served_new, ClosedIf, AllClosed, closed_if_on, all_were_on, all_were_out, all_were_came, all_let_go, came_more, site_more, all_filed, all_were_filed}
 
 -- ---- the desk's steps
 
@@ -732,8 +732,7 @@ module _ {S : Type 0} where
       ∙ ap (λ (ns : List (Option ℕ)). x.number ∷ ns) (same_numbers R same xs ys all)
 
   told_number : (at : ℕ) (made : List Message) (old new : Guest S) → AreTold at made old new → new.number ≡ old.number
-  told_number at [] old new same = ap (λ (g : Guest S). g.number) same
-  told_number at (one ∷ made) old new (between, told, are) = told_number at made between new are ∙ told.number
+  told_number at made old new are = behind_number at false made old new are
 
   next_number : (at : ℕ) (front : List Waiting) (old new : Guest S) → AreNextTold at front old new → new.number ≡ old.number
   next_number at [] old new same = ap (λ (g : Guest S). g.number) same

@@ -1,14 +1,15 @@
 -- What is done at a browser's connection is told on.
 use Rattle.std.proofs.Common.{◌≡◌, ◌≢◌, ◌≤◌, ℕ, Bool, true, false, inl, inr, List, [], ◌∷◌, ◌++◌, Option, None, Some, filter, cond, length, take, refl, ap, sym, ◌∙◌, subst, append_assoc, append-nil, length-append, arith, Vec, Global}
-use Rattle.std.specs.Prelude.{◌⊎◌, ◌||◌, IsUtf8, if◌then◌else◌}
+use Rattle.std.specs.Prelude.{◌⊎◌, ◌&&◌, ◌||◌, IsUtf8, if◌then◌else◌}
 use Rattle.std.specs.List.{AllZip}
 use Rattle.std.specs.String.{string_bytes}
 use Rattle.std.specs.Io.KnownBytes.{Consumes, Appends}
 use Rattle.std.proofs.lemmas.Bool.{eq-eqb, ne_eqb, cases_Bool, false≢true}
+use Rattle.std.proofs.lemmas.Slice.Eq.{bytes_eq-Decides}
 use Rattle.websocket.specs.Content.{text as Text, ping as Ping}
 use Rattle.lobby_desk.specs.declared.telling.Message.{Message}
 use Rattle.lobby_desk.specs.declared.desk.Desk.{Desk}
-use Rattle.lobby_desk.specs.Events.{DeskInput, Opened, Closed, Said, Hurried, Heard, ServerTurned, Renewed, Linked, Found, MessageValue, message_value, message_values}
+use Rattle.lobby_desk.specs.Events.{DeskInput, Opened, Closed, Said, Hurried, Heard, ServerTurned, Renewed, Linked, Found, MessageValue, message_value, message_values, is_offers}
 use Rattle.lobby_desk.specs.Who.{at_table}
 use Rattle.lobby_desk.specs.History.{Step, comes, has_come}
 use Rattle.lobby_web.specs.declared.browser.Browser.{Browser}
@@ -25,9 +26,10 @@ use Rattle.lobby_guests.specs.declared.waiting.Waiting.{Waiting}
 use Rattle.lobby_guests.specs.Waiting.{is_line, must_wait, IsToldBy as IsTextToldBy}
 use Rattle.lobby_talk.specs.Talking.{Saying, InTime, TooFast, WithLink, saying}
 use Rattle.lobby_talk.specs.Counting.{is_for}
-use Rattle.lobby_guests.specs.Guests.{IsNewGuest, IsAsBefore, IsRead, IsSaid, IsPassedOn, IsGiven, IsGivenIf, AreTold, IsNextTold, AreNextTold, IsCaughtUp, IsWritten, IsLookedAfter}
+use Rattle.lobby_guests.specs.Guests.{IsNewGuest, IsAsBefore, IsRead, IsSaid, IsPassedOn, IsGiven, IsGivenIf, is_repeated, last_told, IsToldUnless, AreToldBehind, AreTold, IsNextTold, AreNextTold, IsCaughtUp, IsWritten, IsLookedAfter}
+use Rattle.lobby_guests.proofs.Telling.{number_told}
 use Rattle.lobby_loop.specs.Living.{numbers}
-use Rattle.lobby_loop.specs.Doing.{Doing, Took, Tried, Gave, WasTold, Wrote, Spot, spot, DoesAt, HasDone, IsAt, AreAt, IsAmong, Before, has_opened, texts_more, texts_given, texts_told, AreLate, message_of, messages_of, IsSaidAs, IsSaidBy, all_tells, told_for, is_opening, before_opening, IsToldAs, IsWaitingAs, IsToldOf, IsToldBy, around, IsServed, WasClosed, WereServed, AreServed}
+use Rattle.lobby_loop.specs.Doing.{Doing, Took, Tried, Gave, WasTold, Wrote, Spot, spot, DoesAt, HasDone, IsAt, AreAt, IsAmong, Before, has_opened, texts_more, texts_given, texts_told, AreLate, message_of, messages_of, IsSaidAs, IsSaidBy, all_tells, told_for, is_opening, before_opening, IsToldAs, IsWaitingAs, offers_told, AreOnce, IsToldOf, IsToldBy, around, IsServed, WasClosed, WereServed, AreServed}
 
 -- ---- events of other connections
 
@@ -94,6 +96,9 @@ told_on (Some c) s steps out past waits apart told = record {
   split = told.split;
   early = subst (λ (b : Bool). length told.before ≤ length (all_tells (if b then steps else before_opening c steps)))
       (sym (opening_apart c s.event apart)) told.early;
+  once = told.once;
+  last = told.last;
+  are_once = told.are_once;
   front = told.front;
   rest = told.rest;
   parts = told.parts;
@@ -120,6 +125,9 @@ told_same (Some c) steps out p q waits texts told = record {
   since = told.since;
   split = told.split;
   early = told.early;
+  once = told.once;
+  last = told.last;
+  are_once = told.are_once;
   front = told.front;
   rest = told.rest;
   parts = told.parts;
@@ -148,6 +156,10 @@ no_texts (Wrote site bytes ∷ past) closed = no_texts past closed
 
 -- ---- messages for a connection
 
+both_true : (a b : Bool) → (a && b) ≡ true → (a ≡ true) × (b ≡ true)
+both_true true b is = (refl, is)
+both_true false b is = absurd (false≢true is)
+
 told_for_both : (c : ℕ) (a b : List MessageValue) → told_for c (a ++ b) ≡ told_for c a ++ told_for c b
 told_for_both c [] b = refl
 told_for_both c (t ∷ a) b = elim (cases_Bool (at_table t.to c)) [
@@ -169,19 +181,31 @@ zip_both R (x ∷ xs) us [] vs none_such all = absurd none_such
 zip_both R (x ∷ xs) us (y ∷ ys) vs (one, more) all = (one, zip_both R xs us ys vs more all)
 
 -- what is for a connection of these and of one more
-for_both : (c : ℕ) (since front rest more : List MessageValue) (t : MessageValue) → told_for c since ≡ front ++ rest →
-    told_for c (t ∷ []) ≡ more → told_for c (since ++ t ∷ []) ≡ front ++ (rest ++ more)
-for_both c since front rest more t parts is =
+for_it : (c : ℕ) (since : List MessageValue) (t : MessageValue) → at_table t.to c ≡ true →
+    told_for c (since ++ t ∷ []) ≡ told_for c since ++ t ∷ []
+for_it c since t is =
     told_for_both c since (t ∷ [])
-    ∙ (ap (λ (l : List MessageValue). l ++ told_for c (t ∷ [])) parts
-    ∙ (ap (λ (l : List MessageValue). (front ++ rest) ++ l) is
-    ∙ append_assoc front rest more))
+    ∙ ap (λ (b : Bool). told_for c since ++ (if b then t ∷ [] else [])) is
 
-for_it : (c : ℕ) (t : MessageValue) → at_table t.to c ≡ true → told_for c (t ∷ []) ≡ t ∷ []
-for_it c t is = ap (λ (b : Bool). if b then t ∷ [] else []) is
+not_for_it : (c : ℕ) (since : List MessageValue) (t : MessageValue) → at_table t.to c ≡ false →
+    told_for c (since ++ t ∷ []) ≡ told_for c since
+not_for_it c since t is =
+    told_for_both c since (t ∷ [])
+    ∙ (ap (λ (b : Bool). told_for c since ++ (if b then t ∷ [] else [])) is ∙ append-nil (told_for c since))
 
-not_for_it : (c : ℕ) (t : MessageValue) → at_table t.to c ≡ false → told_for c (t ∷ []) ≡ []
-not_for_it c t is = ap (λ (b : Bool). if b then t ∷ [] else []) is
+-- one more of them, or `offers` behind another
+once_more : (from last is : Bool) (all once : List MessageValue) (t : MessageValue) → (is ≡ true → IsToldAs t offers_told) →
+    AreOnce from last all once → AreOnce from is (all ++ t ∷ []) (once ++ t ∷ [])
+once_more from last is [] once t so (none, same) = inr ([], is, ap (λ (l : List MessageValue). l ++ t ∷ []) none, so, (refl, refl))
+once_more from last is (u ∷ all) once t so (inl (was, told, more)) = inl (was, told, once_more true last is all once t so more)
+once_more from last is (u ∷ all) once t so (inr (more, one, are, told, rest)) =
+    inr (more ++ t ∷ [], one, ap (λ (l : List MessageValue). l ++ t ∷ []) are, told, once_more one last is all more t so rest)
+
+once_less : (from : Bool) (all once : List MessageValue) (t : MessageValue) → IsToldAs t offers_told →
+    AreOnce from true all once → AreOnce from true (all ++ t ∷ []) once
+once_less from [] once t so (none, same) = inl (same, so, (none, refl))
+once_less from (u ∷ all) once t so (inl (was, told, more)) = inl (was, told, once_less true all once t so more)
+once_less from (u ∷ all) once t so (inr (more, one, are, told, rest)) = inr (more, one, are, told, once_less one all more t so rest)
 
 no_rest : (rest : List MessageValue) → AllZip IsWaitingAs rest [] → rest ≡ []
 no_rest [] none = refl
@@ -205,58 +229,121 @@ is_whole [] Line of text new is made = absurd (false≢true (sym is))
 is_whole [] Moves of text new is made = made
 is_whole [] Log of text new is made = made
 
+-- The same, and where this is so the last that is for it is `offers`.
+abbrev ToldTo : Bool → List Step → List MessageValue → ℕ → List Doing → List Waiting → Type 0
+ToldTo is steps out c past waits = (told : IsToldOf steps out c past waits) × (is ≡ true → told.last ≡ true)
+
+abbrev EndsSo : (steps : List Step) (out : List MessageValue) (n : Option ℕ) (past : List Doing) (waits : List Waiting) →
+    IsToldBy steps out n past waits → Type 0
+EndsSo steps out None past waits told = Unit {0}
+EndsSo steps out (Some c) past waits told = told.last ≡ true
+
 -- one message more went out, which is not for the connection
-told_past : (steps : List Step) (out : List MessageValue) (c : ℕ) (t : MessageValue) (p : List Doing) (waits : List Waiting) →
-    at_table t.to c ≡ false → IsToldOf steps out c p waits → IsToldOf steps (out ++ t ∷ []) c p waits
-told_past steps out c t p waits is told = record {
-  before = told.before;
-  since = told.since ++ t ∷ [];
-  split = ap (λ (l : List MessageValue). l ++ t ∷ []) told.split ∙ append_assoc told.before told.since (t ∷ []);
-  early = told.early;
-  front = told.front;
-  rest = told.rest;
-  parts = for_both c told.since told.front told.rest [] t told.parts (not_for_it c t is)
-      ∙ ap (λ (l : List MessageValue). told.front ++ l) (append-nil told.rest);
-  told = told.told;
-  waiting = told.waiting;
-}
+told_past : (steps : List Step) (out : List MessageValue) (c : ℕ) (t : MessageValue) (p : List Doing) (waits : List Waiting) (last : Bool) →
+    at_table t.to c ≡ false → ToldTo last steps out c p waits → ToldTo last steps (out ++ t ∷ []) c p waits
+told_past steps out c t p waits last is (told, ends) = (
+  record {
+    before = told.before;
+    since = told.since ++ t ∷ [];
+    split = ap (λ (l : List MessageValue). l ++ t ∷ []) told.split ∙ append_assoc told.before told.since (t ∷ []);
+    early = told.early;
+    once = told.once;
+    last = told.last;
+    are_once = subst (λ (l : List MessageValue). AreOnce false told.last l told.once) (sym (not_for_it c told.since t is)) told.are_once;
+    front = told.front;
+    rest = told.rest;
+    parts = told.parts;
+    told = told.told;
+    waiting = told.waiting;
+  },
+  ends,
+)
 
 -- one that it was told, where nothing waits
 told_further : (steps : List Step) (out : List MessageValue) (c : ℕ) (t : MessageValue) (text : List ℕ) (p q : List Doing)
-    (waits : List Waiting) → texts_told q ≡ texts_told p ++ text ∷ [] → waits ≡ [] → at_table t.to c ≡ true → IsToldAs t text →
-    IsToldOf steps out c p waits → IsToldOf steps (out ++ t ∷ []) c q waits
-told_further steps out c t text p q waits are none is so told =
+    (waits : List Waiting) (last : Bool) → (last ≡ true → IsToldAs t offers_told) → texts_told q ≡ texts_told p ++ text ∷ [] → waits ≡ [] →
+    at_table t.to c ≡ true → IsToldAs t text → IsToldOf steps out c p waits → ToldTo last steps (out ++ t ∷ []) c q waits
+told_further steps out c t text p q waits last offers are none is so told =
     let rest : told.rest ≡ [] = no_rest told.rest (subst (λ (l : List Waiting). AllZip IsWaitingAs told.rest l) none told.waiting) in
-    let whole : told_for c told.since ≡ told.front ++ [] = told.parts ∙ ap (λ (l : List MessageValue). told.front ++ l) rest in
-    record {
-      before = told.before;
-      since = told.since ++ t ∷ [];
-      split = ap (λ (l : List MessageValue). l ++ t ∷ []) told.split ∙ append_assoc told.before told.since (t ∷ []);
-      early = told.early;
-      front = told.front ++ t ∷ [];
-      rest = [];
-      parts = for_both c told.since told.front [] (t ∷ []) t whole (for_it c t is) ∙ sym (append-nil (told.front ++ t ∷ []));
-      told = subst (λ (l : List (List ℕ)). AllZip IsToldAs (told.front ++ t ∷ []) l) (sym are)
-          (zip_both IsToldAs told.front (t ∷ []) (texts_told p) (text ∷ []) told.told (so, tt));
-      waiting = subst (λ (l : List Waiting). AllZip IsWaitingAs [] l) (sym none) tt;
-    }
+    let whole : told.once ≡ told.front = told.parts ∙ (ap (λ (l : List MessageValue). told.front ++ l) rest ∙ append-nil told.front) in (
+      record {
+        before = told.before;
+        since = told.since ++ t ∷ [];
+        split = ap (λ (l : List MessageValue). l ++ t ∷ []) told.split ∙ append_assoc told.before told.since (t ∷ []);
+        early = told.early;
+        once = told.once ++ t ∷ [];
+        last = last;
+        are_once = subst (λ (l : List MessageValue). AreOnce false last l (told.once ++ t ∷ [])) (sym (for_it c told.since t is))
+            (once_more false told.last last (told_for c told.since) told.once t offers told.are_once);
+        front = told.front ++ t ∷ [];
+        rest = [];
+        parts = ap (λ (l : List MessageValue). l ++ t ∷ []) whole ∙ sym (append-nil (told.front ++ t ∷ []));
+        told = subst (λ (l : List (List ℕ)). AllZip IsToldAs (told.front ++ t ∷ []) l) (sym are)
+            (zip_both IsToldAs told.front (t ∷ []) (texts_told p) (text ∷ []) told.told (so, tt));
+        waiting = subst (λ (l : List Waiting). AllZip IsWaitingAs [] l) (sym none) tt;
+      },
+      (λ same. same),
+    )
 
 -- one that waits
 told_behind : (steps : List Step) (out : List MessageValue) (c : ℕ) (t : MessageValue) (p : List Doing) (waits later : List Waiting)
-    (one : Waiting) → later ≡ waits ++ one ∷ [] → at_table t.to c ≡ true → IsWaitingAs t one → IsToldOf steps out c p waits →
-    IsToldOf steps (out ++ t ∷ []) c p later
-told_behind steps out c t p waits later one are is so told = record {
-  before = told.before;
-  since = told.since ++ t ∷ [];
-  split = ap (λ (l : List MessageValue). l ++ t ∷ []) told.split ∙ append_assoc told.before told.since (t ∷ []);
-  early = told.early;
-  front = told.front;
-  rest = told.rest ++ t ∷ [];
-  parts = for_both c told.since told.front told.rest (t ∷ []) t told.parts (for_it c t is);
-  told = told.told;
-  waiting = subst (λ (l : List Waiting). AllZip IsWaitingAs (told.rest ++ t ∷ []) l) (sym are)
-      (zip_both IsWaitingAs told.rest (t ∷ []) waits (one ∷ []) told.waiting (so, tt));
-}
+    (one : Waiting) (last : Bool) → (last ≡ true → IsToldAs t offers_told) → later ≡ waits ++ one ∷ [] → at_table t.to c ≡ true →
+    IsWaitingAs t one → IsToldOf steps out c p waits → ToldTo last steps (out ++ t ∷ []) c p later
+told_behind steps out c t p waits later one last offers are is so told = (
+  record {
+    before = told.before;
+    since = told.since ++ t ∷ [];
+    split = ap (λ (l : List MessageValue). l ++ t ∷ []) told.split ∙ append_assoc told.before told.since (t ∷ []);
+    early = told.early;
+    once = told.once ++ t ∷ [];
+    last = last;
+    are_once = subst (λ (l : List MessageValue). AreOnce false last l (told.once ++ t ∷ [])) (sym (for_it c told.since t is))
+        (once_more false told.last last (told_for c told.since) told.once t offers told.are_once);
+    front = told.front;
+    rest = told.rest ++ t ∷ [];
+    parts = ap (λ (l : List MessageValue). l ++ t ∷ []) told.parts ∙ append_assoc told.front told.rest (t ∷ []);
+    told = told.told;
+    waiting = subst (λ (l : List Waiting). AllZip IsWaitingAs (told.rest ++ t ∷ []) l) (sym are)
+        (zip_both IsWaitingAs told.rest (t ∷ []) waits (one ∷ []) told.waiting (so, tt));
+  },
+  (λ same. same),
+)
+
+-- `offers` behind another, which it is not told
+told_less : (steps : List Step) (out : List MessageValue) (c : ℕ) (t : MessageValue) (p : List Doing) (waits : List Waiting) →
+    IsToldAs t offers_told → at_table t.to c ≡ true → (told : IsToldOf steps out c p waits) → told.last ≡ true →
+    ToldTo true steps (out ++ t ∷ []) c p waits
+told_less steps out c t p waits so is told ends = (
+  record {
+    before = told.before;
+    since = told.since ++ t ∷ [];
+    split = ap (λ (l : List MessageValue). l ++ t ∷ []) told.split ∙ append_assoc told.before told.since (t ∷ []);
+    early = told.early;
+    once = told.once;
+    last = true;
+    are_once = subst (λ (l : List MessageValue). AreOnce false true l told.once) (sym (for_it c told.since t is))
+        (once_less false (told_for c told.since) told.once t so
+        (subst (λ (b : Bool). AreOnce false b (told_for c told.since) told.once) ends told.are_once));
+    front = told.front;
+    rest = told.rest;
+    parts = told.parts;
+    told = told.told;
+    waiting = told.waiting;
+  },
+  (λ same. same),
+)
+
+-- What goes out is `offers`, where it is so as it was made.
+whole_as : (of kind : Kind) (text new : List ℕ) → is_offers kind new ≡ true → IsMade of text kind new → IsFinished of text offers_told
+whole_as of Whole text new is made = subst (λ (l : List ℕ). IsFinished of text l) ((bytes_eq-Decides new offers_told).0 is) made
+whole_as of AtPosition text new is made = absurd (false≢true is)
+whole_as of Line text new is made = absurd (false≢true is)
+whole_as of Moves text new is made = absurd (false≢true is)
+whole_as of Log text new is made = absurd (false≢true is)
+
+goes_as : (kept : List KeptAnswer) (told made : Message) → IsMadeOf kept told made → is_offers made.kind (string_bytes made.text) ≡ true →
+    IsToldAs (message_value told) offers_told
+goes_as kept told made is offers = whole_as told.kind made.kind (string_bytes told.text) (string_bytes made.text) offers is.text
 
 -- What waits was made so far, and is told by what is there now.
 told_as : (of kind : Kind) (text was new : List ℕ) → IsMade of text kind was → IsTextToldBy (is_line kind) was new → IsFinished of text new
@@ -268,18 +355,18 @@ told_as of Moves text was new made told = subst (λ (l : List ℕ). IsFinished o
 told_as of Log text was new made told = subst (λ (l : List ℕ). IsFinished of text l) (sym told) made
 
 -- the first that waits is told
-record Next (c : ℕ) (since : List MessageValue) (texts : List (List ℕ)) (waits : List Waiting) : Type 0 where
+record Next (once : List MessageValue) (texts : List (List ℕ)) (waits : List Waiting) : Type 0 where
   first : List MessageValue
   later : List MessageValue
-  parts : told_for c since ≡ first ++ later
+  parts : once ≡ first ++ later
   told : AllZip IsToldAs first texts
   waiting : AllZip IsWaitingAs later waits
 
-next_told : (c : ℕ) (since front rest : List MessageValue) (texts : List (List ℕ)) (one : Waiting) (waits : List Waiting) (text : List ℕ) →
-    told_for c since ≡ front ++ rest → AllZip IsToldAs front texts → AllZip IsWaitingAs rest (one ∷ waits) →
-    IsTextToldBy (is_line one.kind) (string_bytes one.text) text → Next c since (texts ++ text ∷ []) waits
-next_told c since front [] texts one waits text parts told none_such by = absurd none_such
-next_told c since front (t ∷ rest) texts one waits text parts told (so, are) by = record {
+next_told : (once front rest : List MessageValue) (texts : List (List ℕ)) (one : Waiting) (waits : List Waiting) (text : List ℕ) →
+    once ≡ front ++ rest → AllZip IsToldAs front texts → AllZip IsWaitingAs rest (one ∷ waits) →
+    IsTextToldBy (is_line one.kind) (string_bytes one.text) text → Next once (texts ++ text ∷ []) waits
+next_told once front [] texts one waits text parts told none_such by = absurd none_such
+next_told once front (t ∷ rest) texts one waits text parts told (so, are) by = record {
   first = front ++ t ∷ [];
   later = rest;
   parts = parts ∙ sym (append_assoc front (t ∷ []) rest);
@@ -291,13 +378,16 @@ told_next : (steps : List Step) (out : List MessageValue) (c : ℕ) (p q : List 
     (text : List ℕ) → texts_told q ≡ texts_told p ++ text ∷ [] → waits ≡ one ∷ later →
     IsTextToldBy (is_line one.kind) (string_bytes one.text) text → IsToldOf steps out c p waits → IsToldOf steps out c q later
 told_next steps out c p q one waits later text are is by told =
-    let next = next_told c told.since told.front told.rest (texts_told p) one later text told.parts told.told
+    let next = next_told told.once told.front told.rest (texts_told p) one later text told.parts told.told
     (subst (λ (l : List Waiting). AllZip IsWaitingAs told.rest l) is told.waiting) by in
     record {
       before = told.before;
       since = told.since;
       split = told.split;
       early = told.early;
+      once = told.once;
+      last = told.last;
+      are_once = told.are_once;
       front = next.first;
       rest = next.later;
       parts = next.parts;
@@ -353,6 +443,14 @@ abbrev pub site_more : {S : Type 0} → Site → Before S → Before S
 site_more site came = record { streams = came.streams; sites = site ∷ came.sites }
 
 -- ---- a browser that is connected
+
+-- it has the number that it had
+pub behind_number : {S : Type 0} (at : ℕ) (last : Bool) (made : List Message) (old new : Guest S) → AreToldBehind last at made old new →
+    new.number ≡ old.number
+behind_number {S} at last [] old new same = ap (λ (guest : Guest S). guest.number) same
+behind_number at last (one ∷ made) old new (between, told, are) =
+    behind_number at (last_told (is_repeated last one) last old.number one) made between new are
+    ∙ number_told at (is_repeated last one) one old between told
 
 module _ {S : Type 0} (remaining contents : S → Option (List ℕ)) (site : Site) (came : Before S) where
   abbrev Served : List Step → List MessageValue → Option ℕ → Spot S → Type 0
@@ -490,6 +588,9 @@ module _ {S : Type 0} (remaining contents : S → Option (List ℕ)) (site : Sit
           since = [];
           split = sym (append-nil out);
           early = subst (λ (u : Bool). length out ≤ length (all_tells (if u then steps else before_opening c steps))) (sym own) whole;
+          once = [];
+          last = false;
+          are_once = (refl, refl);
           front = [];
           rest = [];
           parts = refl;
@@ -545,6 +646,9 @@ module _ {S : Type 0} (remaining contents : S → Option (List ℕ)) (site : Sit
           split = was.told.split;
           early = subst (λ (u : Bool). length was.told.before ≤ length (all_tells (if u then steps else before_opening c steps)))
               (sym other) was.told.early;
+          once = was.told.once;
+          last = was.told.last;
+          are_once = was.told.are_once;
           front = was.told.front;
           rest = was.told.rest;
           parts = was.told.parts;
@@ -568,22 +672,30 @@ module _ {S : Type 0} (remaining contents : S → Option (List ℕ)) (site : Sit
     told = told;
   }
 
+  -- It is served so, and where this is so the last that is for it is `offers`.
+  abbrev Ending : Bool → List Step → List MessageValue → Option ℕ → Spot S → Type 0
+  Ending last steps out n now = (was : Served steps out n now) × (last ≡ true → EndsSo steps out n was.past now.waits was.told)
+
   -- a text is said to it, which it was to be told, and so what waits may be other
-  said_more : (steps : List Step) (out more : List MessageValue) (c : ℕ) (text : List ℕ) (old new : Guest S) →
+  said_more : (last : Bool) (steps : List Step) (out more : List MessageValue) (c : ℕ) (text : List ℕ) (old new : Guest S) →
       IsSaid text old new → (was : Served steps out (Some c) (spot old)) →
-      ((q : List Doing) → texts_told q ≡ texts_told was.past ++ text ∷ [] → IsToldOf steps more c q new.waits.items) →
-      Served steps more (Some c) (spot new)
-  said_more steps out more c text old new is was told = record {
-    first = was.first;
-    new = was.new;
-    among = was.among;
-    past = WasTold (Text text) is.answer ∷ was.past;
-    done = (spot old, was.done, (is.stream, refl, is.says));
-    sites = at_more site came.sites (WasTold (Text text) is.answer) was.past tt was.sites;
-    late = (inr was.said.0, was.late);
-    said = was.said;
-    told = told (WasTold (Text text) is.answer ∷ was.past) refl;
-  }
+      ((q : List Doing) → texts_told q ≡ texts_told was.past ++ text ∷ [] → ToldTo last steps more c q new.waits.items) →
+      Ending last steps more (Some c) (spot new)
+  said_more last steps out more c text old new is was told =
+      let now = told (WasTold (Text text) is.answer ∷ was.past) refl in (
+        record {
+          first = was.first;
+          new = was.new;
+          among = was.among;
+          past = WasTold (Text text) is.answer ∷ was.past;
+          done = (spot old, was.done, (is.stream, refl, is.says));
+          sites = at_more site came.sites (WasTold (Text text) is.answer) was.past tt was.sites;
+          late = (inr was.said.0, was.late);
+          said = was.said;
+          told = now.0;
+        },
+        now.1,
+      )
 
   -- where nothing was done, and something more waits
   done_waits : (first now : Spot S) (past : List Doing) (waits : List Waiting) → HasDone remaining contents first past now →
@@ -595,50 +707,55 @@ module _ {S : Type 0} (remaining contents : S → Option (List ℕ)) (site : Sit
   done_waits first now (WasTold content answer ∷ past) waits done = done
   done_waits first now (Wrote at bytes ∷ past) waits done = done
 
-  waits_more : (steps : List Step) (out more : List MessageValue) (c : ℕ) (now : Spot S) (waits : List Waiting)
-      (was : Served steps out (Some c) now) → IsToldOf steps more c was.past waits →
-      Served steps more (Some c) (record { stage = now.stage; stream = now.stream; waits = waits })
-  waits_more steps out more c now waits was told = record {
-    first = was.first;
-    new = was.new;
-    among = was.among;
-    past = was.past;
-    done = done_waits was.first now was.past waits was.done;
-    sites = was.sites;
-    late = was.late;
-    said = was.said;
-    told = told;
-  }
+  waits_more : (last : Bool) (steps : List Step) (out more : List MessageValue) (c : ℕ) (now : Spot S) (waits : List Waiting)
+      (was : Served steps out (Some c) now) → ToldTo last steps more c was.past waits →
+      Ending last steps more (Some c) (record { stage = now.stage; stream = now.stream; waits = waits })
+  waits_more last steps out more c now waits was told = (
+    record {
+      first = was.first;
+      new = was.new;
+      among = was.among;
+      past = was.past;
+      done = done_waits was.first now was.past waits was.done;
+      sites = was.sites;
+      late = was.late;
+      said = was.said;
+      told = told.0;
+    },
+    told.1,
+  )
 
-  moved_to : (steps : List Step) (out : List MessageValue) (n : Option ℕ) (old new : Guest S) → new.browser ≡ old.browser →
-      new.stream ≡ old.stream → Served steps out n (record { stage = old.browser.stage; stream = old.stream; waits = new.waits.items }) →
-      Served steps out n (spot new)
-  moved_to steps out n old new browser stream was =
-      subst (λ (b : Browser). Served steps out n (record { stage = b.stage; stream = new.stream; waits = new.waits.items })) (sym browser)
-      (subst (λ (s : S). Served steps out n (record { stage = old.browser.stage; stream = s; waits = new.waits.items })) (sym stream) was)
+  moved_to : (last : Bool) (steps : List Step) (out : List MessageValue) (n : Option ℕ) (old new : Guest S) → new.browser ≡ old.browser →
+      new.stream ≡ old.stream → Ending last steps out n (record { stage = old.browser.stage; stream = old.stream; waits = new.waits.items }) →
+      Ending last steps out n (spot new)
+  moved_to last steps out n old new browser stream was =
+      subst (λ (b : Browser). Ending last steps out n (record { stage = b.stage; stream = new.stream; waits = new.waits.items })) (sym browser)
+      (subst (λ (s : S). Ending last steps out n (record { stage = old.browser.stage; stream = s; waits = new.waits.items })) (sym stream) was)
 
   -- one message goes out of the desk's hands, which is for it
   passed_on : (steps : List Step) (out : List MessageValue) (kept : List KeptAnswer) (c at : ℕ) (told made : Message) (old new : Guest S) (waits : Bool) →
       must_wait old.waits.items made.kind ≡ waits → at_table (message_value told).to c ≡ true → IsMadeOf kept told made →
       IsPassedOn waits at made old new → Served steps out (Some c) (spot old) →
-      Served steps (out ++ message_value told ∷ []) (Some c) (spot new)
+      Ending (is_offers made.kind (string_bytes made.text)) steps (out ++ message_value told ∷ []) (Some c) (spot new)
   passed_on steps out kept c at told made old new false must to is (said, same, paid) was =
-      said_more steps out (out ++ message_value told ∷ []) c (string_bytes made.text) old new said was
-      (λ q texts. subst (λ v. IsToldOf steps (out ++ message_value told ∷ []) c q v.items) (sym same)
-      (told_further steps out c (message_value told) (string_bytes made.text) was.past q old.waits.items texts
+      let last = is_offers made.kind (string_bytes made.text) in
+      said_more last steps out (out ++ message_value told ∷ []) c (string_bytes made.text) old new said was
+      (λ q texts. subst (λ v. ToldTo last steps (out ++ message_value told ∷ []) c q v.items) (sym same)
+      (told_further steps out c (message_value told) (string_bytes made.text) was.past q old.waits.items last (goes_as kept told made is) texts
       (nothing_waits old.waits.items made.kind must) to
       (is_whole old.waits.items made.kind told.kind (string_bytes told.text) (string_bytes made.text) must is.text) was.told))
   passed_on steps out kept c at told made old new true must to is put was =
-      moved_to steps (out ++ message_value told ∷ []) (Some c) old new put.browser put.stream
-      (waits_more steps out (out ++ message_value told ∷ []) c (spot old) new.waits.items was
-      (told_behind steps out c (message_value told) was.past old.waits.items new.waits.items put.one put.waits to
+      let last = is_offers made.kind (string_bytes made.text) in
+      moved_to last steps (out ++ message_value told ∷ []) (Some c) old new put.browser put.stream
+      (waits_more last steps out (out ++ message_value told ∷ []) c (spot old) new.waits.items was
+      (told_behind steps out c (message_value told) was.past old.waits.items new.waits.items put.one last (goes_as kept told made is) put.waits to
       (subst (λ (k : Kind). IsMade told.kind (string_bytes told.text) k (string_bytes put.one.text)) (sym put.copy.kind)
       (subst (λ (l : List ℕ). IsMade told.kind (string_bytes told.text) made.kind l) (sym put.copy.text) is.text)) was.told))
 
   -- it was noted whether that refuses a login
   given_on : (steps : List Step) (out : List MessageValue) (kept : List KeptAnswer) (c at : ℕ) (told made : Message) (old new : Guest S) →
       at_table (message_value told).to c ≡ true → IsMadeOf kept told made → IsGiven at made old new → Served steps out (Some c) (spot old) →
-      Served steps (out ++ message_value told ∷ []) (Some c) (spot new)
+      Ending (is_offers made.kind (string_bytes made.text)) steps (out ++ message_value told ∷ []) (Some c) (spot new)
   given_on steps out kept c at told made old new to is given was =
       let still = given.notes.still in
       passed_on steps out kept c at told made given.noted new (must_wait old.waits.items made.kind)
@@ -646,31 +763,66 @@ module _ {S : Type 0} (remaining contents : S → Option (List ℕ)) (site : Sit
       (stays_at steps out (Some c) old given.noted still.browser still.stream still.waits was)
 
   -- one message goes out of the desk's hands
-  served_one : (n : Option ℕ) (steps : List Step) (out : List MessageValue) (kept : List KeptAnswer) (at : ℕ) (told made : Message) (old new : Guest S) →
-      IsMadeOf kept told made → IsGivenIf (is_for n made.to.items) at made old new → Served steps out n (spot old) →
-      Served steps (out ++ message_value told ∷ []) n (spot new)
-  served_one None steps out kept at told made old new is same was =
-      let so = subst (λ (g : Guest S). Served steps out None (spot g)) (sym same) was in
-      told_anew steps steps out (out ++ message_value told ∷ []) None (spot new) so so.said so.told
-  served_one (Some c) steps out kept at told made old new is given was =
+  served_one : (n : Option ℕ) (steps : List Step) (out : List MessageValue) (kept : List KeptAnswer) (at : ℕ) (last : Bool) (told made : Message)
+      (old new : Guest S) → IsMadeOf kept told made → IsGivenIf (is_for n made.to.items) at made old new → Ending last steps out n (spot old) →
+      Ending (last_told false last n made) steps (out ++ message_value told ∷ []) n (spot new)
+  served_one None steps out kept at last told made old new is same was =
+      let so = subst (λ (g : Guest S). Served steps out None (spot g)) (sym same) was.0 in
+      (told_anew steps steps out (out ++ message_value told ∷ []) None (spot new) so so.said so.told, (λ _. tt))
+  served_one (Some c) steps out kept at last told made old new is given was =
       let to : at_table made.to.items c ≡ at_table (message_value told).to c = ap (λ l. at_table l.items c) is.to in
+      let more = out ++ message_value told ∷ [] in
+      let offers = is_offers made.kind (string_bytes made.text) in
       elim (cases_Bool (at_table made.to.items c)) [
-        | inl for_c ↦ given_on steps out kept c at told made old new (sym to ∙ for_c) is
-            (subst (λ (u : Bool). IsGivenIf u at made old new) for_c given) was
+        | inl for_c ↦ subst (λ (u : Bool). Ending (if u then offers else last) steps more (Some c) (spot new)) (sym for_c)
+            (given_on steps out kept c at told made old new (sym to ∙ for_c) is
+            (subst (λ (u : Bool). IsGivenIf u at made old new) for_c given) was.0)
         | inr not_for_c ↦
             let same = subst (λ (u : Bool). IsGivenIf u at made old new) not_for_c given in
-            let so = subst (λ (g : Guest S). Served steps out (Some c) (spot g)) (sym same) was in
-            told_anew steps steps out (out ++ message_value told ∷ []) (Some c) (spot new) so so.said
-            (told_past steps out c (message_value told) so.past new.waits.items (sym to ∙ not_for_c) so.told)
+            let so = subst (λ (g : Guest S). Ending last steps out (Some c) (spot g)) (sym same) was in
+            subst (λ (u : Bool). Ending (if u then offers else last) steps more (Some c) (spot new)) (sym not_for_c)
+            (waits_more last steps out more c (spot new) new.waits.items so.0
+            (told_past steps out c (message_value told) so.0.past new.waits.items last (sym to ∙ not_for_c) (so.0.told, so.1)))
       ]
+
+  -- one that is not told, since it is `offers` behind another
+  served_less : (n : Option ℕ) (steps : List Step) (out : List MessageValue) (kept : List KeptAnswer) (told made : Message) (old new : Guest S) →
+      IsMadeOf kept told made → is_offers made.kind (string_bytes made.text) ≡ true → new ≡ old → Ending true steps out n (spot old) →
+      Ending true steps (out ++ message_value told ∷ []) n (spot new)
+  served_less None steps out kept told made old new is offers same was =
+      let so = subst (λ (g : Guest S). Served steps out None (spot g)) (sym same) was.0 in
+      (told_anew steps steps out (out ++ message_value told ∷ []) None (spot new) so so.said so.told, (λ _. tt))
+  served_less (Some c) steps out kept told made old new is offers same was =
+      let more = out ++ message_value told ∷ [] in
+      let so = subst (λ (g : Guest S). Ending true steps out (Some c) (spot g)) (sym same) was in
+      waits_more true steps out more c (spot new) new.waits.items so.0 (elim (cases_Bool (at_table (message_value told).to c)) [
+        | inl for_c ↦ told_less steps out c (message_value told) so.0.past new.waits.items (goes_as kept told made is offers) for_c so.0.told
+            (so.1 refl)
+        | inr not_for_c ↦ told_past steps out c (message_value told) so.0.past new.waits.items true not_for_c (so.0.told, so.1)
+      ])
+
+  -- a message goes out, and is told unless it is so
+  served_unless : (repeated : Bool) (n : Option ℕ) (steps : List Step) (out : List MessageValue) (kept : List KeptAnswer) (at : ℕ) (last : Bool)
+      (told made : Message) (old new : Guest S) → is_repeated last made ≡ repeated → n ≡ old.number → IsMadeOf kept told made →
+      IsToldUnless repeated at made old new → Ending last steps out n (spot old) →
+      Ending (last_told repeated last n made) steps (out ++ message_value told ∷ []) n (spot new)
+  served_unless true n steps out kept at last told made old new so number is same was =
+      let both = both_true last (is_offers made.kind (string_bytes made.text)) so in
+      served_less n steps out kept told made old new is both.1 same
+      (subst (λ (b : Bool). Ending b steps out n (spot old)) both.0 was)
+  served_unless false n steps out kept at last told made old new so number is one was =
+      served_one n steps out kept at last told made old new is
+      (subst (λ (m : Option ℕ). IsGivenIf (is_for m made.to.items) at made old new) (sym number) one.given) was
 
   -- what waits first is told
   served_next : (n : Option ℕ) (steps : List Step) (out : List MessageValue) (at : ℕ) (one : Waiting) (old new : Guest S) →
       IsNextTold at one old new → Served steps out n (spot old) → Served steps out n (spot new)
   served_next None steps out at one old new is was = absurd (false≢true (sym (ap any_waits (sym is.first ∙ was.told.1))))
   served_next (Some c) steps out at one old new is was =
-      said_more steps out out c is.text old new is.said was
-      (λ q texts. told_next steps out c was.past q one old.waits.items new.waits.items is.text texts is.first is.told was.told)
+      (said_more false steps out out c is.text old new is.said was (λ q texts. (
+        told_next steps out c was.past q one old.waits.items new.waits.items is.text texts is.first is.told was.told,
+        (λ wrong. absurd (false≢true wrong)),
+      ))).0
 
   served_caught : (steps : List Step) (out : List MessageValue) (at : ℕ) (front : List Waiting) (old new : Guest S) →
       AreNextTold at front old new → Served steps out old.number (spot old) → Served steps out new.number (spot new)
@@ -683,20 +835,28 @@ module _ {S : Type 0} (remaining contents : S → Option (List ℕ)) (site : Sit
       Served steps out old.number (spot old) → Served steps out new.number (spot new)
   served_caught_up steps out at old new up was = served_caught steps out at up.front old new up.are was
 
+  served_behind : (last : Bool) (steps : List Step) (out : List MessageValue) (kept : List KeptAnswer) (at : ℕ) (told : List Message)
+      (made : List Message) (old new : Guest S) → AllZip (IsMadeOf kept) told made → AreToldBehind last at made old new →
+      Ending last steps out old.number (spot old) → Served steps (out ++ message_values told) new.number (spot new)
+  served_behind last steps out kept at [] [] old new none same was =
+      subst (λ (l : List MessageValue). Served steps l new.number (spot new)) (sym (append-nil out))
+      (subst (λ (g : Guest S). Served steps out g.number (spot g)) (sym same) was.0)
+  served_behind last steps out kept at [] (m ∷ made) old new none_such are was = absurd none_such
+  served_behind last steps out kept at (t ∷ told) [] old new none_such are was = absurd none_such
+  served_behind last steps out kept at (t ∷ told) (m ∷ made) old new (one, all) (between, is, are) was =
+      let after = last_told (is_repeated last m) last old.number m in
+      let mid : Ending after steps (out ++ message_value t ∷ []) between.number (spot between) =
+      subst (λ (n : Option ℕ). Ending after steps (out ++ message_value t ∷ []) n (spot between))
+      (sym (number_told at (is_repeated last m) m old between is))
+      (served_unless (is_repeated last m) old.number steps out kept at last t m old between refl refl one is was) in
+      subst (λ (l : List MessageValue). Served steps l new.number (spot new)) (append_assoc out (message_value t ∷ []) (message_values told))
+      (served_behind after steps (out ++ message_value t ∷ []) kept at told made between new all are mid)
+
   pub served_told : (steps : List Step) (out : List MessageValue) (kept : List KeptAnswer) (at : ℕ) (told : List Message) (made : List Message) (old new : Guest S) →
       AllZip (IsMadeOf kept) told made → AreTold at made old new → Served steps out old.number (spot old) →
       Served steps (out ++ message_values told) new.number (spot new)
-  served_told steps out kept at [] [] old new none same was =
-      subst (λ (l : List MessageValue). Served steps l new.number (spot new)) (sym (append-nil out))
-      (subst (λ (g : Guest S). Served steps out g.number (spot g)) (sym same) was)
-  served_told steps out kept at [] (m ∷ made) old new none_such are was = absurd none_such
-  served_told steps out kept at (t ∷ told) [] old new none_such are was = absurd none_such
-  served_told steps out kept at (t ∷ told) (m ∷ made) old new (one, all) (between, is, are) was =
-      let mid : Served steps (out ++ message_value t ∷ []) between.number (spot between) =
-      subst (λ (n : Option ℕ). Served steps (out ++ message_value t ∷ []) n (spot between)) (sym is.number)
-      (served_one old.number steps out kept at t m old between one is.given was) in
-      subst (λ (l : List MessageValue). Served steps l new.number (spot new)) (append_assoc out (message_value t ∷ []) (message_values told))
-      (served_told steps (out ++ message_value t ∷ []) kept at told made between new all are mid)
+  served_told steps out kept at told made old new all are was =
+      served_behind false steps out kept at told made old new all are (was, (λ wrong. absurd (false≢true wrong)))
 
   -- ---- all of them
 

@@ -1,6 +1,6 @@
 -- What was done at a browser's connection since it came, and what the desk has of it.
 use Rattle.std.specs.Prelude.{ℕ, ◌≡◌, ◌≤◌, ◌⊎◌, ◌==◌, Bool, true, false, List, [], ◌∷◌, ◌++◌, length, take, Option}
-use Rattle.std.specs.Prelude.{None, Some, IsUtf8, Result, if◌then◌else◌}
+use Rattle.std.specs.Prelude.{None, Some, IsUtf8, Result, codes, if◌then◌else◌}
 use Rattle.std.specs.List.{AllZip}
 use Rattle.std.specs.Io.KnownBytes.{Consumes, Appends}
 use Rattle.std.specs.String.{string_bytes}
@@ -184,18 +184,34 @@ IsToldAs t text = IsFinished t.kind t.text text
 abbrev pub IsWaitingAs : MessageValue → Waiting → Type 0
 IsWaitingAs t one = IsMade t.kind t.text one.kind (string_bytes one.text)
 
+-- that what players offer each other is other than before, as it goes out
+abbrev pub offers_told : List ℕ
+offers_told = codes "offers\n"
+
+-- The second messages are the first in their order, but some are left out that are `offers`, each right behind one that
+-- is: whether one stands before all of them, and whether the last of all is one.
+abbrev pub AreOnce : Bool → Bool → List MessageValue → List MessageValue → Type 0
+AreOnce from last [] once = (once ≡ []) × (from ≡ last)
+AreOnce from last (t ∷ all) once =
+    ((from ≡ true) × IsToldAs t offers_told × AreOnce true last all once)
+    ⊎ ((more : List MessageValue) × (is : Bool) × (once ≡ t ∷ more) × (is ≡ true → IsToldAs t offers_told)
+    × AreOnce is last all more)
+
 -- Of what went out of the desk's hands this connection was to be told each message that is for it, once and in their
--- order, as it goes out, and nothing else: of all but a front of which nothing was told since it came; and what of it
--- was not told, behind all that was, waits for it.
+-- order, as it goes out, and nothing else, but for an `offers` right behind another: of all but a front of which nothing
+-- was told since it came; and what of it was not told, behind all that was, waits for it.
 pub record IsToldOf (steps : List Step) (out : List MessageValue) (c : ℕ) (past : List Doing)
     (waits : List Waiting) : Type 0 where
   pub before : List MessageValue
   pub since : List MessageValue
   pub split : out ≡ before ++ since
   pub early : length before ≤ length (all_tells (before_opening c steps))
+  pub once : List MessageValue
+  pub last : Bool
+  pub are_once : AreOnce false last (told_for c since) once
   pub front : List MessageValue
   pub rest : List MessageValue
-  pub parts : told_for c since ≡ front ++ rest
+  pub parts : once ≡ front ++ rest
   pub told : AllZip IsToldAs front (texts_told past)
   pub waiting : AllZip IsWaitingAs rest waits
 

@@ -262,8 +262,9 @@ NoLineWaits (Some link) = HoldsNoLine link
 -- the rest of it is to go; of what went out the log has all texts for it, each once and in their order. Of all
 -- browsers that came, those that were let go too, no two have one connection's number, and the desk was told of no
 -- connection but theirs; the desk has, under its number, all that a browser said, and of what went out all that is
--- for its number was told it or waits for it behind that, which only an answer to `line G` does that was not there
--- yet and what came behind it. Its requests have the answers of the sites that were served.
+-- for its number, but an `offers` right behind another, was told it or waits for it behind that, which only an answer to
+-- `line G` does that was not there yet and what came behind it. Its requests have the answers of the sites that were
+-- served.
 pub record IsRightLife {S : Type 0} (remaining contents : S → Option (List ℕ)) (players : List Player)
     (at_first : Halted)
     (past : List (Happening S)) (now : Hall S) : Type 0 where

@@ -21,8 +21,8 @@ ghost use Rattle.lobby_loop.specs.Speaking.{Speaks};
 /// browsers that came have one number at the desk, and it knows of no connection but theirs; it has, under a browser's
 /// number, each text that came of it, once and in their order, and nothing else; and of all that went out of the desk's
 /// hands while it was there a browser was to be told each message that is for its number, once and in their order, and
-/// nothing else, but those at the end that wait, the first of them an answer to `line G` that is not there yet; and the
-/// log has had all texts for it among what went out, likewise.
+/// nothing else, but an `offers` right behind another, and those at the end that wait, the first of them an answer to
+/// `line G` that is not there yet; and the log has had all texts for it among what went out, likewise.
 pub fn law_of_halls<S>()
     ensures { (remaining contents : S → Option (List ℕ)) (players : List Player) (at_first : Halted)
         (past : List (Happening S))

@@ -1,6 +1,6 @@
 //! Files that are read whole, and put whole in their own places.
 use anyhow::{Result, bail};
-use night_files::{AppendedFile, DiskFile, OWNERS_MODE, folder_of, new_file};
+use night_files::{OWNERS_MODE, folder_of, new_file};
 use std::alloc::Global;
 use std::fs::{File, Metadata, OpenFile, Permissions};
 use std::io::Write;
@@ -10,9 +10,6 @@ use std::{fs, io};
 
 // A file of more bytes is not read while players play: they would wait meanwhile.
 const BYTES_MOST: u64 = 1_048_576;
-
-// So many bytes are left for a text that is to be put also where the disk is full.
-const ROOM: usize = 256;
 
 // Fails where a file is no regular file, since to read of a pipe or a device may last for ever, or has more bytes than
 // are read of one while players play.
@@ -111,33 +108,6 @@ pub fn put_file<R: Files>(rt: &R, alloc: Global, file: &str, text: &str) -> Resu
 /// symbolic link is followed.
 pub fn put_own_file<R: Files>(rt: &R, alloc: Global, file: &str, text: &str) -> Result<()> {
     put(rt, alloc, file, Permissions::from_mode(OWNERS_MODE), text)
-}
-
-/// Leaves a file beside this one, its owner's alone, that can take its place: of 256 blanks, or of fewer where the disk
-/// is full by now.
-pub fn leave_room<R: Files>(rt: &R, alloc: Global, file: &str) -> Result<()> {
-    let room = format!(in alloc; "{file}.new")?;
-    let mut left = new_file(rt, room.as_str(), OWNERS_MODE)?;
-    let _ = left.write_all(&[b' '; ROOM]);
-    Ok(())
-}
-
-/// Puts a text in the place of a file's, as `put_own_file` does, by the file that was left beside it: so also on a disk
-/// that takes no more files, nor bytes where the text has no more than were left. Where no file was left, one is made.
-pub fn put_in_room<R: Files<File = File>>(
-    rt: &R,
-    alloc: Global,
-    file: &str,
-    text: &str,
-) -> Result<()> {
-    let room = format!(in alloc; "{file}.new")?;
-    let mut new = DiskFile::open_beside(rt, room.as_str(), OWNERS_MODE)?;
-    new.cut(0)?;
-    new.append(text.as_bytes())?;
-    new.sync()?;
-    fs::rename(rt, room.as_str(), file)?;
-    File::open(rt, folder_of(file))?.sync_all()?;
-    Ok(())
 }
 
 /// Takes a file away, if it is there; of a symbolic link the link. Where it answers, that is on the disk. It fails

@@ -4,9 +4,10 @@ ghost use Rattle.std.specs.Prelude.{◌≡◌, IfOk, OnOk, OnErr};
 ghost use Rattle.std.specs.String.{string_bytes};
 ghost use Rattle.lobby_players.specs.Stopping as spec;
 
-use crate::file::{leave_room, put_in_room, read_file, take_away};
+use crate::file::read_file;
 use anyhow::{Context, Result};
 use lobby_words::are_message_bytes;
+use night_files::{leave_room, put_in_room, take_to_room};
 use std::alloc::AllocError;
 use std::fs::{self, File};
 use std::rt::Files;
@@ -143,12 +144,12 @@ impl<'a, R: Files<File = File> + AllocGlobal + Eprint> StopFile<'a, R> {
     fn put(&self, reason: &str) -> Result<()> {
         let (rt, alloc) = (self.rt, self.rt.alloc());
         if reason.is_empty() {
-            take_away(rt, self.file)?;
-            let _ = leave_room(rt, alloc, self.file);
-            return Ok(());
+            take_to_room(rt, alloc, self.file)?;
+        } else {
+            let text = format!(in alloc; "{reason}\n")?;
+            put_in_room(rt, alloc, self.file, text.as_str())?;
         }
-        let text = format!(in alloc; "{reason}\n")?;
-        put_in_room(rt, alloc, self.file, text.as_str())
+        Ok(())
     }
 
     /// Keeps why all clocks are stopped, where that is news. Where it answers, it is on the disk; or they were stopped

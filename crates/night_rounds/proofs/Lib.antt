@@ -1,4 +1,5 @@
 pub mod RowByRow
+pub mod Seated
 pub mod Spelled
 pub mod TimesBack
 pub mod NotesBack

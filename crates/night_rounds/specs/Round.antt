@@ -3,11 +3,14 @@ use Rattle.std.specs.Prelude.{ℕ, suc, ◌≡◌, ◌==◌, Bool, false, ◌||�
 use Rattle.std.specs.Prelude.{Err, if◌then◌else◌}
 use Rattle.std.specs.List.{list_any}
 use Rattle.std.specs.Str.{bytes_eq}
+use Rattle.std.specs.Ordering.{nat_cmp}
+use Rattle.std.specs.BTreeSet.{contains, contains_text}
 use Rattle.csv.specs.Reading.{AreRecords, default_config, strip_bom}
 use Rattle.csv.specs.declared.parser.State.TheVariants as st
 use Rattle.night_rounds.specs.declared.rows.Against.{Against}
 use Rattle.night_rounds.specs.declared.rows.Against.TheVariants as against
 use Rattle.night_rounds.specs.declared.rows.Pairing.{Pairing}
+use Rattle.night_rounds.specs.declared.reading.Seats.{Seats}
 use Rattle.night_rounds.specs.declared.faults.RowFault.{RowFault}
 use Rattle.night_rounds.specs.declared.faults.RowFault.TheVariants as row_faults
 use Rattle.night_rounds.specs.declared.faults.Fault.{Fault}
@@ -35,6 +38,11 @@ is_paired name pairings = list_any (has_player name) pairings
 abbrev pub is_black_paired : Against → List Pairing → Bool
 is_black_paired (against.Bye bye) pairings = false
 is_black_paired (against.Game game) pairings = is_paired game.black pairings
+
+-- The sets have the boards and the players of the pairings.
+pub record AreSeats (seats : Seats) : Type 0 where
+  pub boards : (board : ℕ) → contains nat_cmp seats.boards board ≡ has_board board seats.pairings.items
+  pub players : (name : List ℕ) → contains_text seats.players name ≡ is_paired name seats.pairings.items
 
 -- why a pairing may not stand behind others: a board, and a player, has one pairing in a round
 abbrev pub clash_of : List Pairing → Pairing → Option RowFault

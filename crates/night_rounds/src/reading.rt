@@ -1,5 +1,7 @@
 //! A file of pairings is read.
-ghost use Rattle.std.specs.Prelude.{◌≡◌, ◌∷◌, [], Ok, IfOk, IfErr, map};
+ghost use Rattle.std.specs.Prelude.{◌≡◌, ◌∷◌, ◌++◌, ℕ, List, [], Ok, IfOk, OnOk, IfErr, map, true, if◌then◌else◌};
+ghost use Rattle.std.specs.BTreeSet.{contains_text};
+ghost use Rattle.std.specs.Str.{bytes_eq};
 ghost use Rattle.csv.specs.Records.{fields_of};
 ghost use Rattle.night_rounds.specs.Round as spec;
 
@@ -9,77 +11,106 @@ use csv::{Error, ErrorKind, StringRecord};
 use night_report::records_of;
 use player_name::Name;
 use std::alloc::{AllocError, Global};
+use std::collections::BTreeSet;
 
-fn has_black(against: Against, name: &Name) -> bool
-    ensures { result ≡ spec.has_black name.now against }
-{
-    match against {
-        Against::Bye(_) => false,
-        Against::Game(game) => game.black.as_str() == name.as_str(),
-    }
+// The pairings that were read, and the boards and players that they have.
+#[derive(Drop)]
+struct Seats {
+    pairings: Vec<Pairing>,
+    boards: BTreeSet<u32>,
+    players: BTreeSet<String>,
 }
 
-// Whether a player has a seat at a board.
-fn has_player(pairing: &Pairing, name: &Name) -> bool
-    ensures { result ≡ spec.has_player name.now pairing.now }
+// A player has a seat from now on.
+fn seat(alloc: Global, players: &mut BTreeSet<String>, name: &Name) -> Result<(), AllocError>
+    ensures { OnOk result ((other : List ℕ) → contains_text players.new other
+        ≡ (if bytes_eq name.now other then true else contains_text players.old other)) }
 {
-    pairing.white.as_str() == name.as_str() || has_black(pairing.against, name)
+    let key = String::from_str(alloc, name.as_str())?;
+    players.insert(key)?;
+    Ok(())
 }
 
-fn has_board(pairings: &[Pairing], board: u32) -> bool
-    ensures { result ≡ spec.has_board board pairings.now }
-{
-    pairings.iter().any(|pairing| pairing.board == board)
-}
-
-fn is_paired(pairings: &[Pairing], name: &Name) -> bool
-    ensures { result ≡ spec.is_paired name.now pairings.now }
-{
-    pairings.iter().any(|pairing| has_player(pairing, name))
-}
-
-fn is_black_paired(pairings: &[Pairing], against: Against) -> bool
-    ensures { result ≡ spec.is_black_paired against pairings.now }
-{
-    match against {
-        Against::Bye(_) => false,
-        Against::Game(game) => is_paired(pairings, &game.black),
-    }
-}
-
-// Why a pairing may not stand behind others.
-fn clash_of(pairings: &[Pairing], pairing: &Pairing) -> Option<RowFault>
-    ensures { result ≡ spec.clash_of pairings.now pairing.now }
-{
-    if has_board(pairings, pairing.board) {
-        Some(RowFault::BoardTwice)
-    } else if is_paired(pairings, &pairing.white) {
-        Some(RowFault::WhiteTwice)
-    } else if is_black_paired(pairings, pairing.against) {
-        Some(RowFault::BlackTwice)
-    } else {
-        None
-    }
-}
-
-// Puts the pairing of a row behind the others. It answers the row's fault.
-fn take(
+// Black has one too, where there is one.
+fn seat_black(
     alloc: Global,
-    pairings: &mut Vec<Pairing>,
-    row: &StringRecord,
-) -> Result<Option<RowFault>, AllocError>
-    ensures { IfOk result (λ fault. spec.take_row pairings.old.items (fields_of row.now)
-        ≡ spec.outcome_of pairings.new.items fault) }
+    players: &mut BTreeSet<String>,
+    against: Against,
+) -> Result<(), AllocError>
+    ensures { OnOk result ((other : List ℕ) → contains_text players.new other
+        ≡ (if spec.has_black other against then true else contains_text players.old other)) }
 {
-    let pairing = match pairing_of(alloc, row)? {
-        Ok(pairing) => pairing,
-        Err(fault) => return Ok(Some(fault)),
-    };
-    if let Some(fault) = clash_of(pairings.as_slice(), &pairing) {
-        return Ok(Some(fault));
+    match against {
+        Against::Bye(_) => Ok(()),
+        Against::Game(game) => seat(alloc, players, &game.black),
     }
-    pairings.push(pairing)?;
-    Ok(None)
+}
+
+impl Seats {
+    fn new(alloc: Global) -> Seats
+        ensures none { result.pairings.items ≡ [] }
+        ensures are { spec.AreSeats result }
+    {
+        Seats {
+            pairings: Vec::new(alloc),
+            boards: BTreeSet::new(alloc),
+            players: BTreeSet::new(alloc),
+        }
+    }
+
+    fn is_paired(&self, name: &Name) -> bool
+        requires { spec.AreSeats self.now }
+        ensures { result ≡ spec.is_paired name.now self.now.pairings.items }
+    {
+        self.players.contains(name.as_str())
+    }
+
+    fn is_black_paired(&self, against: Against) -> bool
+        requires { spec.AreSeats self.now }
+        ensures { result ≡ spec.is_black_paired against self.now.pairings.items }
+    {
+        match against {
+            Against::Bye(_) => false,
+            Against::Game(game) => self.is_paired(&game.black),
+        }
+    }
+
+    // Why a pairing may not stand behind these.
+    fn clash_of(&self, pairing: &Pairing) -> Option<RowFault>
+        requires { spec.AreSeats self.now }
+        ensures { result ≡ spec.clash_of self.now.pairings.items pairing.now }
+    {
+        if self.boards.contains(&pairing.board) {
+            Some(RowFault::BoardTwice)
+        } else if self.is_paired(&pairing.white) {
+            Some(RowFault::WhiteTwice)
+        } else if self.is_black_paired(pairing.against) {
+            Some(RowFault::BlackTwice)
+        } else {
+            None
+        }
+    }
+
+    // Puts the pairing of a row behind these. It answers the row's fault.
+    fn take(&mut self, alloc: Global, row: &StringRecord) -> Result<Option<RowFault>, AllocError>
+        requires { spec.AreSeats self.old }
+        ensures fault { IfOk result (λ fault. spec.take_row self.old.pairings.items (fields_of row.now)
+            ≡ spec.outcome_of self.new.pairings.items fault) }
+        ensures are { OnOk result (spec.AreSeats self.new) }
+    {
+        let pairing = match pairing_of(alloc, row)? {
+            Ok(pairing) => pairing,
+            Err(fault) => return Ok(Some(fault)),
+        };
+        if let Some(fault) = self.clash_of(&pairing) {
+            return Ok(Some(fault));
+        }
+        self.boards.insert(pairing.board)?;
+        seat(alloc, &mut self.players, &pairing.white)?;
+        seat_black(alloc, &mut self.players, pairing.against)?;
+        self.pairings.push(pairing)?;
+        Ok(None)
+    }
 }
 
 // The pairings of the rows below the header.
@@ -87,13 +118,13 @@ fn pairings_below(alloc: Global, rows: &[StringRecord]) -> Result<Vec<Pairing>, 
     ensures pairings { IfOk result (λ pairings. spec.rows_in [] 2 (map fields_of rows.now) ≡ Ok pairings.items) }
     ensures fault { IfErr result (spec.IsBelowFault (map fields_of rows.now)) }
 {
-    let mut pairings = Vec::new(alloc);
+    let mut seats = Seats::new(alloc);
     for at in 0..rows.len() {
-        if let Some(fault) = take(alloc, &mut pairings, &rows[at])? {
+        if let Some(fault) = seats.take(alloc, &rows[at])? {
             return Err(Fault::Row(at + 2, fault));
         }
     }
-    Ok(pairings)
+    Ok(seats.pairings)
 }
 
 // The pairings of all rows, the first one and those below it.
