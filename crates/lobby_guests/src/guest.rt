@@ -207,8 +207,8 @@ impl<S> Guest<S> {
         }
     }
 
-    // Whether something may have come of it.
-    fn may_have(&self) -> bool
+    /// Whether something may have come of it.
+    pub fn may_have(&self) -> bool
         ensures { result ≡ may_have self.now }
     {
         self.has_more || self.can_read
@@ -273,8 +273,8 @@ impl<S> Guest<S> {
         }
     }
 
-    // The player for whom it acts.
-    fn player(&self, talk: &Talk) -> Option<Name>
+    /// The player for whom it acts.
+    pub fn player(&self, talk: &Talk) -> Option<Name>
         ensures { result ≡ player_of talk.now.desk self.now.number }
     {
         match self.number {

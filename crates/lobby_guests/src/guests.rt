@@ -158,7 +158,7 @@ fn serve_player<S: Read + Write, K: KeepsLinks>(
     Ok(has_read | has_heard)
 }
 
-// Attends a browser if it acts for a player, and has time.
+// Attends a browser if it acts for a player, and has time. One of which nothing may have come is passed by first.
 fn attend_player<S: Read + Write, K: KeepsLinks>(
     guest: &mut Guest<S>,
     asks: &mut Asks,
@@ -173,6 +173,9 @@ fn attend_player<S: Read + Write, K: KeepsLinks>(
         (room_of talk.old asks.old) (room_of talk.new asks.new)) }
     ensures silent { IfOk result (λ any. any ≡ false → talk.new ≡ talk.old) }
 {
+    if !guest.may_have() && guest.unread().is_empty() {
+        return Ok(false);
+    }
     let is_turn = talk.acts(guest.number()) && guest.has_time(at);
     if !is_turn {
         return Ok(false);
