@@ -16,6 +16,7 @@ ghost use Rattle.lobby_guests.specs.declared.waiting.Waiting.{Waiting as Waiting
 ghost use Rattle.std.specs.String.{string_bytes};
 ghost use Rattle.std.specs.Option.{option_map};
 ghost use Rattle.lobby_talk.specs.Counting.{is_for};
+ghost use Rattle.lobby_talk.specs.Talking.{acts_at};
 ghost use Rattle.lobby_guests.specs.Waiting as waiting;
 ghost use Rattle.lobby_guests.specs.Guests.{IsLookedAfter, is_in_time, taken_until, MayHave, may_have, IsDue};
 ghost use Rattle.lobby_guests.specs.Guests.{due_at, ahead_at, is_unheard, IsPaid, owed_after, paid_for, since_after};
@@ -208,8 +209,8 @@ impl<S> Guest<S> {
         }
     }
 
-    // Whether something may have come of it.
-    fn may_have(&self) -> bool
+    /// Whether something may have come of it.
+    pub fn may_have(&self) -> bool
         ensures { result ≡ may_have self.now }
     {
         self.has_more || self.can_read
@@ -276,8 +277,8 @@ impl<S> Guest<S> {
         }
     }
 
-    // The player for whom it acts.
-    fn player(&self, talk: &Talk) -> Option<Name>
+    /// The player for whom it acts.
+    pub fn player(&self, talk: &Talk) -> Option<Name>
         ensures { result ≡ player_of talk.now.desk self.now.number }
     {
         talk.desk().player_at(self.number?)
@@ -707,11 +708,15 @@ impl<S> Guest<S> {
         }
     }
 
-    // From when on its time counts, where it acts for a player or not.
-    fn since_after(&self, acts: bool, at: u64) -> u64
-        ensures { result ≡ since_after acts at self.now.since }
+    // From when on its time counts: where that is this moment already the desk is not asked for whom it acts.
+    fn since_after(&self, talk: &Talk, at: u64) -> u64
+        ensures { result ≡ since_after (acts_at talk.now.desk self.now.number) at self.now.since }
     {
-        if acts { at } else { self.since }
+        if self.since == at || talk.acts(self.number) {
+            at
+        } else {
+            self.since
+        }
     }
 
     /// Where it acts for a player its time as a nameless one counts from now on. Where it is time, asks a browser that
@@ -719,8 +724,7 @@ impl<S> Guest<S> {
     pub fn look_after(&mut self, talk: &Talk, is_time: bool, at: u64)
         ensures { IsLookedAfter talk.now.desk is_time at self.old self.new }
     {
-        let acts = talk.acts(self.number);
-        self.since = self.since_after(acts, at);
+        self.since = self.since_after(talk, at);
         self.ask_silent(is_time, at);
     }
 }

@@ -161,7 +161,7 @@ fn serve_player<S: Read + Write, K: KeepsLinks>(
     Ok(has_read | has_heard)
 }
 
-// Attends a browser if it acts for a player, and has time.
+// Attends a browser if it acts for a player, and has time. One of which nothing may have come is passed by first.
 fn attend_player<S: Read + Write, K: KeepsLinks>(
     guest: &mut Guest<S>,
     asks: &mut Asks,
@@ -177,6 +177,9 @@ fn attend_player<S: Read + Write, K: KeepsLinks>(
     ensures silent { IfOk result (λ any. any ≡ false → talk.new ≡ talk.old) }
     ensures drained { IfOk result (λ any. any ≡ false → IsPlayerDrained talk.old.desk at guest.old guest.new) }
 {
+    if !guest.may_have() && guest.unread().is_empty() {
+        return Ok(false);
+    }
     let is_turn = talk.acts(guest.number()) && guest.has_time(at);
     if !is_turn {
         return Ok(false);

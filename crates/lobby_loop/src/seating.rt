@@ -27,7 +27,7 @@ pub fn names_in<S>(alloc: Global, guests: &[Guest<S>], talk: &Talk) -> Result<Ve
 {
     guests
         .iter()
-        .filter_map(|guest| guest.place(talk).player)
+        .filter_map(|guest| guest.player(talk))
         .collect(alloc)
 }
 

@@ -8,6 +8,9 @@ use server_answers::{Refusal, Row, pgn_head_of, refusal_of, row_of, shown_of};
 use std::alloc::{AllocError, Global};
 use text_parts::parts;
 
+/// So many games are asked about in one piece: of each alone its wait would cost the server more than its answer.
+const ASKED_AT_ONCE: usize = 8;
+
 /// What the server told of a game.
 #[derive(Drop)]
 pub struct ToldGame {
@@ -105,9 +108,20 @@ fn games_in(alloc: Global, lines: &[&str]) -> Result<Vec<u32>, AllocError> {
     Ok(games)
 }
 
-// The PGN of a game, and the answer to `show` behind it, asked in one piece; none where the game has left the table.
-fn told_by(alloc: Global, link: &mut Link, game: u32) -> Result<Option<(String, String)>> {
-    link.say(format!(in alloc; "pgn {game}\nshow {game}")?.as_str())?;
+// Asks in one piece for the PGN of each of these games, and how it stands behind that.
+fn ask_for(alloc: Global, link: &mut Link, games: &[u32]) -> Result<()> {
+    let mut lines = String::new(alloc);
+    for game in games {
+        if !lines.is_empty() {
+            lines.push('\n')?;
+        }
+        lines.push_str(format!(in alloc; "pgn {game}\nshow {game}")?.as_str())?;
+    }
+    link.say(lines.as_str())
+}
+
+// The PGN of a game, and the answer to `show` behind it, that were asked for; none where the game has left the table.
+fn told_by(link: &mut Link, game: u32) -> Result<Option<(String, String)>> {
     let pgn = link.hear()?;
     let shown = link.hear()?.first;
     if let Some(Refusal::NoGame) = refusal_of(shown.as_str()) {
@@ -152,14 +166,13 @@ impl Table {
         Ok(())
     }
 
-    // Asks about the game of a row.
-    fn ask(&mut self, alloc: Global, link: &mut Link, line: &str, at: u64) -> Result<()> {
+    // Hears what was asked about the game of a row.
+    fn hear(&mut self, alloc: Global, link: &mut Link, line: &str, at: u64) -> Result<()> {
         let Some(row) = row_of(line) else {
             return Ok(());
         };
         let game = row.game;
-        let Some((pgn, shown)) = told_by(alloc, link, game).context(format_args!("game {game}"))?
-        else {
+        let Some((pgn, shown)) = told_by(link, game).context(format_args!("game {game}"))? else {
             self.games.retain(|other| other.game != game);
             return Ok(());
         };
@@ -189,8 +202,11 @@ impl Table {
         let games = games_in(alloc, lines.as_slice())?;
         self.games.retain(|told| games.contains(&told.game));
         let asked = rows_asked(alloc, self.games.as_slice(), news, lines.as_slice())?;
-        for line in asked.as_slice() {
-            self.ask(alloc, link, line, at)?;
+        for lines in asked.as_slice().chunks(ASKED_AT_ONCE) {
+            ask_for(alloc, link, games_in(alloc, lines)?.as_slice())?;
+            for line in lines {
+                self.hear(alloc, link, line, at)?;
+            }
         }
         Ok(())
     }
