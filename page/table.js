@@ -230,8 +230,8 @@ export class TableView {
   itemOf(row, kind) {
     const names = [row.white, row.black].map((name) => this.app.nameWords(name));
     const ranks = [row.white, row.black].map((name) => this.app.rankOf(name));
-    const shows = [kind, row.number, names, ranks, timesWords(row.times), row.own, this.stateWords(row), this.app.me(),
-      this.app.reachable()];
+    const shows = [kind, row.number, names, ranks, timesWords(row.times), row.own, this.stateWords(row), row.isAway,
+      this.app.me(), this.app.reachable()];
     return this.kept(JSON.stringify(shows), () => this.item(row, kind));
   }
 

@@ -745,7 +745,7 @@ def a_killed_browser(hall):
     number = hall.set_up()
     join = '[data-key="join-%s"]' % number
     bob.finds(join, 'it waits')
-    hall.ann.dies()
+    hall.people.pop('ann').dies()
     bob.loses(join, 'who was killed is not joined', 40).reads('#open-list', 'not connected')
     bob.goes('game/' + number).reads('#outcome', hall.lobby.full['ann'] + ' is not connected.')
     bob.lacks('#join', 'nor at the game').reads('.player.white .away', 'not connected')

@@ -1,7 +1,10 @@
 """People before a browser: Chromium by Selenium, each person with a profile of their own."""
 
+import contextlib
 import os
 import re
+import signal
+import subprocess
 import time
 
 from selenium.common.exceptions import StaleElementReferenceException, WebDriverException
@@ -96,7 +99,8 @@ class Person:
 
     def __init__(self, name, folder, checked):
         self.name, self.checked, self.board = name, checked, '#board'
-        self.driver = chromium(os.path.join(folder, 'profile-' + name), '--hide-scrollbars',
+        self.profile = os.path.join(folder, 'profile-' + name)
+        self.driver = chromium(self.profile, '--hide-scrollbars',
                                '--disable-renderer-backgrounding', '--disable-background-timer-throttling')
         self.cdp('Page.addScriptToEvaluateOnNewDocument', source=SPY)
         self.cdp('Browser.grantPermissions', permissions=['clipboardReadWrite'])
@@ -124,11 +128,13 @@ class Person:
             pass
 
     def dies(self):
-        """The browser is killed: it says nothing any more."""
-        try:
-            self.cdp('Browser.crash')
-        except WebDriverException:
-            pass
+        """The browser is killed, with all of its processes: it says nothing any more."""
+        said = subprocess.run(['ps', '-eo', 'pid=,args='], capture_output=True, text=True, check=True).stdout
+        for pid, words in (line.split(maxsplit=1) for line in said.splitlines()):
+            if '--user-data-dir=' + self.profile in words:
+                with contextlib.suppress(ProcessLookupError):
+                    os.kill(int(pid), signal.SIGKILL)
+        self.close()
 
     # ---- looking
 
